@@ -2,10 +2,11 @@
 use crate::calls::{Told, ask, bring, complete, evict, is_here, make, put, word_at};
 use crate::made::made;
 use crate::same::{same, same_at};
-use outside::{Drum, MemDrum};
+use outside::{Drum, MemDrum, Memory};
 use page_homes::{Home, MOST_HOMES};
 use paged_store::PagedStore;
-use std::test::Fail;
+use std::alloc::Global;
+use std::process::Abort;
 
 // Six pages in three frames are filled, and looked at three times. How often the drum failed; none where a word isn't the one that was put.
 pub fn churn<D: Drum>(store: &mut PagedStore, drum: &mut D) -> Option<u64> {
@@ -41,61 +42,58 @@ fn make_room<D: Drum>(store: &mut PagedStore, drum: &mut D, faults: &mut u64) {
     }
 }
 
-#[test]
-fn each_call_fails_in_turn(rt: HostRuntime) -> Result<(), Fail> {
-    let alloc = rt.alloc();
-    for call in 1..40 {
-        for is_read in [true, false] {
-            let failing = vec![in alloc; call; 1]?;
-            let none = vec![in alloc; 0; 0]?;
-            let drum = if is_read {
-                MemDrum::new(alloc, MOST_HOMES, failing, none)
-            } else {
-                MemDrum::new(alloc, MOST_HOMES, none, failing)
-            };
-            let mut drum = made(&rt, drum);
-            let mut store = made(&rt, PagedStore::boot(alloc, 3, 6));
-            let faults = churn(&mut store, &mut drum);
-            let made = if is_read { drum.reads() } else { drum.writes() };
-            same_at(
-                &rt,
-                call,
-                (faults, drum.faults()),
-                (Some(u64::from(call <= made)), u64::from(call <= made)),
-            );
-        }
-    }
-    Ok(())
+// A drum in memory whose read and write of these numbers fail. No call has number 0.
+fn failing_drum(alloc: Global, read: u64, write: u64) -> Result<MemDrum, Memory> {
+    let reads = vec![in alloc; read; 1]?;
+    let writes = vec![in alloc; write; 1]?;
+    MemDrum::new(alloc, MOST_HOMES, reads, writes)
+}
+
+// One call fails, if there are so many, and is made once more.
+fn one_call_fails(rt: &impl Abort, alloc: Global, read: u64, write: u64) {
+    let mut drum = made(rt, failing_drum(alloc, read, write));
+    let mut store = made(rt, PagedStore::boot(alloc, 3, 6));
+    let faults = churn(&mut store, &mut drum);
+    let failed = 1 <= read && read <= drum.reads() || 1 <= write && write <= drum.writes();
+    same_at(rt, read.max(write), faults, Some(u64::from(failed)));
+    same_at(rt, read.max(write), drum.faults(), u64::from(failed));
 }
 
 #[test]
-fn a_transfer_that_failed_is_still_queued(rt: HostRuntime) -> Result<(), Fail> {
-    let alloc = rt.alloc();
-    let drum = MemDrum::new(
-        alloc,
-        MOST_HOMES,
-        vec![in alloc; 1; 1]?,
-        vec![in alloc; 1; 1]?,
-    );
-    let mut drum = made(&rt, drum);
-    let mut store = made(&rt, PagedStore::boot(alloc, 1, 2));
+fn each_call_fails_in_turn(rt: HostRuntime) {
+    for call in 1..40 {
+        one_call_fails(&rt, rt.alloc(), call, 0);
+        one_call_fails(&rt, rt.alloc(), 0, call);
+    }
+}
+
+// A page leaves at the second try, and has its words until then.
+fn leaves_late<D: Drum>(rt: &impl Abort, store: &mut PagedStore, drum: &mut D) {
+    evict(store, 0);
+    same(rt, complete(store, drum), Told::Fault);
     same(
-        &rt,
-        (make(&mut store), put(&mut store, Home(0), 5, 5)),
-        (Some(Home(0)), true),
-    );
-    evict(&mut store, 0);
-    same(&rt, complete(&mut store, &mut drum), Told::Fault);
-    same(
-        &rt,
-        (word_at(&store, Home(0), 5), drum.writes()),
+        rt,
+        (word_at(store, Home(0), 5), drum.writes()),
         (Some(5), 0),
     );
-    same(&rt, complete(&mut store, &mut drum), Told::Frame);
-    same(&rt, ask(&mut store, Home(0)), Told::Page(Home(0)));
-    same(&rt, complete(&mut store, &mut drum), Told::Fault);
-    same(&rt, (is_here(&store, Home(0)), drum.reads()), (false, 0));
-    same(&rt, complete(&mut store, &mut drum), Told::Page(Home(0)));
-    same(&rt, word_at(&store, Home(0), 5), Some(5));
-    Ok(())
+    same(rt, complete(store, drum), Told::Frame);
+}
+
+// It comes back at the second try.
+fn comes_late<D: Drum>(rt: &impl Abort, store: &mut PagedStore, drum: &mut D) {
+    same(rt, ask(store, Home(0)), Told::Page(Home(0)));
+    same(rt, complete(store, drum), Told::Fault);
+    same(rt, (is_here(store, Home(0)), drum.reads()), (false, 0));
+    same(rt, complete(store, drum), Told::Page(Home(0)));
+    same(rt, word_at(store, Home(0), 5), Some(5));
+}
+
+#[test]
+fn a_transfer_that_failed_is_still_queued(rt: HostRuntime) {
+    let mut drum = made(&rt, failing_drum(rt.alloc(), 1, 1));
+    let mut store = made(&rt, PagedStore::boot(rt.alloc(), 1, 2));
+    same(&rt, make(&mut store), Some(Home(0)));
+    same(&rt, put(&mut store, Home(0), 5, 5), true);
+    leaves_late(&rt, &mut store, &mut drum);
+    comes_late(&rt, &mut store, &mut drum);
 }

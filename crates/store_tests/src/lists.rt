@@ -8,6 +8,7 @@ use outside::{Drum, SureDrum};
 use page_contracts::{CONSOLE_HOLDER, Store};
 use page_homes::{Home, MOST_HOMES};
 use paged_store::PagedStore;
+use std::process::Abort;
 
 // How many homes there are.
 const HOMES: usize = 12;
@@ -82,6 +83,33 @@ fn set(words: &mut [Option<u64>; HOMES], home: Home, word: Option<u64>) {
     }
 }
 
+// The taken homes are those that have a word in the list, and each page that is in a frame has that word.
+fn agrees(rt: &impl Abort, call: u64, store: &PagedStore, words: &[Option<u64>; HOMES]) {
+    for home in 0..HOMES as u32 {
+        let is = get(words, Home(home));
+        same_at(rt, call, store.taken(Home(home)), is.is_some());
+        if let Some(word) = word_at(store, Home(home), 0) {
+            same_at(rt, call, Some(word), is);
+        }
+    }
+}
+
+// Each page that is taken comes into a frame, and has the word of the list.
+fn all_come<D: Drum>(
+    rt: &impl Abort,
+    store: &mut PagedStore,
+    drum: &mut D,
+    words: &[Option<u64>; HOMES],
+) {
+    for home in 0..HOMES as u32 {
+        if store.taken(Home(home)) {
+            bring(store, drum, Home(home));
+        }
+        let word = load(store, Home(home), 0);
+        same_at(rt, u64::from(home), word, get(words, Home(home)));
+    }
+}
+
 #[test]
 fn a_store_is_a_list_of_pages(rt: HostRuntime) {
     let mut drum = made(&rt, SureDrum::new(rt.alloc(), MOST_HOMES));
@@ -91,24 +119,8 @@ fn a_store_is_a_list_of_pages(rt: HostRuntime) {
     for call in 0..20000 {
         chance = next(chance);
         step(&mut store, &mut drum, &mut words, chance);
-        for home in 0..HOMES as u32 {
-            let is = get(&words, Home(home));
-            same_at(&rt, call, store.taken(Home(home)), is.is_some());
-            if let Some(word) = word_at(&store, Home(home), 0) {
-                same_at(&rt, call, Some(word), is);
-            }
-        }
+        agrees(&rt, call, &store, &words);
     }
     store.let_go(CONSOLE_HOLDER);
-    for home in 0..HOMES as u32 {
-        if store.taken(Home(home)) {
-            bring(&mut store, &mut drum, Home(home));
-        }
-        same_at(
-            &rt,
-            u64::from(home),
-            load(&mut store, Home(home), 0),
-            get(&words, Home(home)),
-        );
-    }
+    all_come(&rt, &mut store, &mut drum, &words);
 }
