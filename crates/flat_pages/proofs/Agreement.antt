@@ -335,6 +335,10 @@ module _ (t : Tables) (a : AreTables t) where
         old x (inl r) e = a.old r.0 x r.1
         old x (inr none) e = absurd (let z : false ≡ true = sym (ap is_some (object_gone x none)) ∙ e in cc z)
 
+    -- so many pages live
+    pub tables_objects : fin.len p.objects ≡ t.taken
+    tables_objects = omega (arith, objects_len (content t.places d) t.names a.once taken_words, a.taken)
+
     -- so many pages and forks live
     pub tables_live : live p ≡ t.taken + t.living
     tables_live = omega (arith, live_whole p tables_whole, objects_len (content t.places d) t.names a.once taken_words, a.taken, len_maps t.names t.maps a.held.once, a.living)

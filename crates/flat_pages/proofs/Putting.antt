@@ -24,6 +24,7 @@ use Rattle.plain_pages.proofs.Counts.{Same, page_tells}
 use Rattle.flat_pages.specs.HeldMaps.{name_at}
 use Rattle.flat_pages.specs.SlotTables.{Tables, plain_of, AreTables, AreSized}
 use Rattle.page_contracts.specs.Stores.{away_home, away_at}
+use Rattle.page_contracts.proofs.HomeCounts.{free_mapped}
 use Rattle.flat_pages.proofs.Agreement.{Housed, housed, object_home, object_gone}
 use Rattle.flat_pages.proofs.Meeting.{Reached}
 use Rattle.flat_pages.proofs.Settling.{content_here, content_other}
@@ -52,20 +53,6 @@ replaced_tables t a places len taken frees = record {
   room = a.room;
   few = a.few;
 }
-
-free_taken : (p : HomePlace) → is_free p ≡ not (is_taken p)
-free_taken free = refl
-free_taken away = refl
-free_taken (here words) = refl
-
-free_mapped : (ps qs : List HomePlace) → map is_taken ps ≡ map is_taken qs → free_homes ps ≡ free_homes qs
-free_mapped ps qs same = count ps ∙ ap (λ bs. sum_by (λ b. cond (not b) 1 0) bs) same ∙ sym (count qs)
-  where
-    count : (ps : List HomePlace) → free_homes ps ≡ sum_by (λ b. cond (not b) 1 0) (map is_taken ps)
-    count [] = refl
-    count (p ∷ ps) =
-        let here : ◌≡◌ {A = ℕ} (cond (is_free p) 1 0) (cond (not (is_taken p)) 1 0) = ap (λ b. cond b 1 0) (free_taken p) in
-        omega (arith, here, count ps, sum_by-cons (λ (q : HomePlace). cond (is_free q) 1 0) p ps, sum_by-cons (λ (b : Bool). cond (not b) 1 0) (is_taken p) (map is_taken ps))
 
 -- the same, where the list of homes that are taken is the same
 pub moved_tables : (t : Tables) → AreTables t → (places : List HomePlace) → map is_taken places ≡ map is_taken t.places → AreTables (replaced t places)

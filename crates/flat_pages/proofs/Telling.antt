@@ -14,6 +14,7 @@ use Rattle.page_homes.specs.declared.homes.Home.{Home}
 use Rattle.plain_pages.specs.Room.{same_page}
 use Rattle.page_contracts.specs.DrumWords.{DrumWords}
 use Rattle.page_contracts.specs.Stores.{HomePlace, free, away, here, place, is_taken, over_drum, content}
+use Rattle.page_contracts.proofs.HomeCounts.{taken_or_free}
 use Rattle.plain_pages.proofs.Counts.{Same, page_tells}
 use Rattle.flat_pages.specs.declared.held_map.HeldMap.{HeldMap}
 use Rattle.flat_pages.specs.HeldMaps.{fork_at, name_at, name_of, nobody, one_later, living_of}
@@ -24,7 +25,7 @@ use Rattle.flat_pages.specs.SlotMeaning.{AreTold, filed_in}
 use Rattle.flat_pages.proofs.FiledHomes.{get_filed}
 use Rattle.flat_pages.proofs.ForkMaps.{searched}
 use Rattle.flat_pages.proofs.LivingMaps.{lives_held}
-use Rattle.flat_pages.proofs.Agreement.{Housed, housed, filed_named, tables_whole, tables_live, object_home, object_gone}
+use Rattle.flat_pages.proofs.Agreement.{Housed, housed, filed_named, tables_whole, tables_live, tables_objects, object_home, object_gone}
 use Rattle.flat_pages.proofs.Touching.{home_is as home_found}
 use Rattle.flat_pages.proofs.Settling.{sized_of}
 
@@ -136,5 +137,6 @@ tables_told t a pages = record {
   apart = λ n m home is it. (let z : Some n ≡ Some m = sym (named_home t.names n home is) ∙ named_home t.names m home it in cc z);
   housed = λ d n fits. has_home t a d (sized_of t.places d fits pages) n;
   homes = a.homes;
+  objects = λ d fits. omega (arith, taken_or_free t.places, a.free, a.homes, tables_objects t a d (sized_of t.places d fits pages));
   mapped = λ home e. cc e;
 }

@@ -1,8 +1,8 @@
 -- What the clauses of pages say of maps in memory over a store.
-use Rattle.std.specs.Prelude.{◌≡◌, ℕ, ◌+◌, ◌<◌, ◌≤◌, List, length, true, false, Option, None, Some, is_some, IsSome, MatchOption}
+use Rattle.std.specs.Prelude.{◌≡◌, ℕ, ◌+◌, ◌<◌, ◌≤◌, List, count_by, length, true, false, Option, None, Some, is_some, IsSome, MatchOption}
 use Rattle.std.specs.Option.{option_map, option_and_then}
 use Rattle.std.specs.FinMap as map
-use Rattle.std.proofs.Common.{inl, refl, sym, ◌∙◌, ap}
+use Rattle.std.proofs.Common.{refl, sym, ◌∙◌, ap}
 use Rattle.machine_names.specs.declared.names.ForkName.{ForkName}
 use Rattle.machine_names.specs.declared.names.PageName.{PageName}
 use Rattle.machine_names.specs.declared.names.Slot.{Slot}
@@ -72,6 +72,7 @@ slots_meaning store part tables = record {
   most = λ p. (tables p).limit;
   most_forks = MOST_FORKS;
   flat = store.flat;
+  paged = false;
   space = λ p f. option_map (λ k. record { 0 = k }) (index_of (tables p).maps f);
   place = λ p. place_along (store.found (part p)) (tables p);
   map_home = λ p f. None;
@@ -93,6 +94,7 @@ pub record AreTold (t : Tables) : Type 0 where
   pub apart : (n m : PageName) (home : ℕ) → home_named t.names n ≡ Some home → home_named t.names m ≡ Some home → n ≡ m
   pub housed : (d : DrumWords) (n : PageName) → FitsHomes t.places d → is_some (home_named t.names n) ≡ map.contains_key (plain_of t d).objects n
   pub homes : length t.places ≡ t.limit
+  pub objects : (d : DrumWords) → FitsHomes t.places d → count_by is_taken t.places ≡ map.len (plain_of t d).objects
   pub mapped : (home : ℕ) → ◌≡◌ {A = Option ℕ} None (Some home) → ⊥
 
 module _ {P S : Type 0} (store : StoreMeaning S) (part : P → S) where
@@ -149,15 +151,15 @@ module _ {P S : Type 0} (store : StoreMeaning S) (part : P → S) where
       page_homes = λ n. ap (λ (places : List HomePlace). away_of places (home_named (tables p).names n)) (sym same);
       taken = housed_taken same;
       apart = housed_apart;
-      mapped = inl (λ f. refl);
+      mapped = λ f. refl;
       filed = told.filed;
       frames = refl;
       homes = ap (λ (places : List HomePlace). length places) same ∙ told.homes;
       flat = refl;
     }
 
-    pub slots_agree : (d : DrumWords) → FitsHomes (tables p).places d → Agrees (slots_meaning store part tables) p (plain_of (tables p) d)
-    slots_agree d fits = record {
+    pub slots_agree : store.homes (part p) ≡ (tables p).places → (d : DrumWords) → FitsHomes (tables p).places d → Agrees (slots_meaning store part tables) p (plain_of (tables p) d)
+    slots_agree same d fits = record {
       living = told.lives;
       filed = refl;
       next = λ t owner. refl;
@@ -165,6 +167,7 @@ module _ {P S : Type 0} (store : StoreMeaning S) (part : P → S) where
       bound = refl;
       room = told.room d fits;
       housed = λ n. told.housed d n fits;
+      taken = ap (count_by is_taken) same ∙ told.objects d fits;
       absent_pages = λ n home is. told.there d n home (store.spare (part p)) fits is;
       absent_maps = λ f home is. absurd (told.mapped home is);
     }

@@ -677,7 +677,7 @@ impl<S: Store> Pages for FlatSlots<S> {
 
     ghost housed = { λ s. slots_housed S.means (λ p. p.store) (λ p. tables_of (S.means.homes p.store) p.tables) s s.told refl (S.sound s.store) };
 
-    ghost agrees = { λ s d fits. slots_agree S.means (λ p. p.store) (λ p. tables_of (S.means.homes p.store) p.tables) s s.told d fits };
+    ghost agrees = { λ s d fits. slots_agree S.means (λ p. p.store) (λ p. tables_of (S.means.homes p.store) p.tables) s s.told refl d fits };
 
     ghost whole = { λ s d fits. s.told.whole d fits };
 

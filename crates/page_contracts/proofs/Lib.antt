@@ -2,3 +2,4 @@ pub mod Touches
 pub mod Rooms
 pub mod Ways
 pub mod Losing
+pub mod HomeCounts

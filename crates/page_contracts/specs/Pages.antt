@@ -1,5 +1,5 @@
 -- What the calls on pages answer and leave: over the plain pages, and over what is in frames.
-use Rattle.std.specs.Prelude.{◌≡◌, ◌≢◌, ◌⊎◌, ◌↔◌, ℕ, ◌+◌, ◌<◌, ◌≤◌, List, [], ◌∷◌, length, Bool, true, false, nat_lt, nat_le, Option, None, Some, if◌then◌else◌, ◌==◌, count_by, slice_index, is_some, IsSome, MatchOption}
+use Rattle.std.specs.Prelude.{◌≡◌, ◌≢◌, ◌⊎◌, ◌↔◌, ℕ, ◌+◌, ◌<◌, ◌≤◌, List, [], ◌∷◌, length, Bool, true, false, ◌&&◌, nat_lt, nat_le, Option, None, Some, if◌then◌else◌, ◌==◌, count_by, slice_index, is_some, IsSome, MatchOption}
 use Rattle.std.specs.Option.{option_map, option_or, option_map_or, option_and_then}
 use Rattle.std.specs.declared.cmp.Ordering.{Ordering}
 use Rattle.std.specs.FinMap as map
@@ -254,6 +254,8 @@ pub record PagesMeaning (P : Type 0) : Type 1 where
   pub most_forks : ℕ
   -- nothing is ever in no frame, and nothing depends on a drum
   pub flat : Bool
+  -- maps are pages of the store, and have homes
+  pub paged : Bool
   -- the handle of a living fork's space
   pub space : P → ForkName → Option SpaceHandle
   -- where the page of a space is that a look found, under its number
@@ -447,14 +449,9 @@ abbrev pub home_for : {P : Type 0} → PagesMeaning P → P → Housed → Optio
 home_for means p (a_page n) = means.page_home p n
 home_for means p (a_map f) = means.map_home p f
 
--- maps have homes: those of the forks that live have one, so that as many homes are taken as there are pages and forks
-pub record HousesMaps {P : Type 0} (means : PagesMeaning P) (p : P) : Type 0 where
-  pub living : (f : ForkName) → is_some (means.map_home p f) ≡ means.lives p f
-  pub taken : count_by is_taken (means.store.homes p) ≡ means.count p
-
--- The pages stand in a sound store, which has as many homes as pages and forks may live. The home of a page or a map is taken, and is no other's; no map
--- has one, or that of each fork that lives has; so has each page that a file names at one of its pages. What is in no frame is exactly what has a home that
--- is away, and the free frames are the store's.
+-- The pages stand in a sound store, which has as many homes as pages and forks may live. The home of a page or a map is taken, and is no other's; where
+-- maps are pages those of the forks that live have one, and each page has one that a file names at one of its pages. What is in no frame is exactly what has
+-- a home that is away, and the free frames are the store's.
 pub record AreHoused {P : Type 0} (means : PagesMeaning P) (p : P) : Type 0 where
   pub sound : IsSound means.store p
   pub maps : (f : ForkName) (home : ℕ) → (means.scene p).map_away f ≡ Some home → place (means.store.homes p) home ≡ away
@@ -463,14 +460,14 @@ pub record AreHoused {P : Type 0} (means : PagesMeaning P) (p : P) : Type 0 wher
   pub page_homes : (n : PageName) → (means.scene p).page_away n ≡ away_of (means.store.homes p) (means.page_home p n)
   pub taken : (x : Housed) (home : ℕ) → home_for means p x ≡ Some home → is_taken (place (means.store.homes p) home) ≡ true
   pub apart : (x y : Housed) (home : ℕ) → home_for means p x ≡ Some home → home_for means p y ≡ Some home → x ≡ y
-  pub mapped : ((f : ForkName) → means.map_home p f ≡ None) ⊎ HousesMaps means p
+  pub mapped : (f : ForkName) → is_some (means.map_home p f) ≡ (means.paged && means.lives p f)
   pub filed : (f : FilePage ℕ) (n : PageName) → means.filed p f ≡ Some n → (f.file < MOST_FILES) × (f.page < FILE_PAGES) × IsSome (means.page_home p n)
   pub frames : (means.scene p).free_frames ≡ means.store.spare p
   pub homes : length (means.store.homes p) ≡ means.most p
   pub flat : means.store.flat ≡ means.flat
 
 -- over each drum that fits, the plain pages have the numbers that are told without it, no more than may be, and files name what is told; what
--- has a home is there, and so is what is in no frame
+-- has a home is there, and so is what is in no frame; as many homes are taken as pages and forks live, or pages alone where maps are in memory
 pub record Agrees {P : Type 0} (means : PagesMeaning P) (p : P) (plain : NumberedPages) : Type 0 where
   pub living : (f : ForkName) → means.lives p f ≡ map.contains_key plain.maps f
   pub filed : means.filed p ≡ map.get plain.files
@@ -479,5 +476,6 @@ pub record Agrees {P : Type 0} (means : PagesMeaning P) (p : P) (plain : Numbere
   pub bound : means.most p ≡ plain.limit
   pub room : FitsLimit plain
   pub housed : (n : PageName) → is_some (means.page_home p n) ≡ map.contains_key plain.objects n
+  pub taken : count_by is_taken (means.store.homes p) ≡ (if means.paged then live plain else map.len plain.objects)
   pub absent_pages : (n : PageName) (home : ℕ) → (means.scene p).page_away n ≡ Some home → map.contains_key plain.objects n ≡ true
   pub absent_maps : (f : ForkName) (home : ℕ) → (means.scene p).map_away f ≡ Some home → map.contains_key plain.maps f ≡ true

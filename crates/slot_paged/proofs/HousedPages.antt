@@ -1,6 +1,6 @@
 -- What holds of pages that have a store, in which the maps are too, and of the plain pages that they stand for.
 use Rattle.std.proofs.Common.{◌≡◌, ◌≢◌, inl, inr, ℕ, zero, suc, ◌<◌, List, [], ◌∷◌, true, false, cond, Option, None, Some, is_some, refl, sym, ◌∙◌, ap, subst, arith}
-use Rattle.std.specs.Prelude.{◌+◌, IsSome, count_by, length, nat_eq}
+use Rattle.std.specs.Prelude.{◌+◌, IsSome, count_by, nat_eq}
 use Rattle.std.specs.FinMap as fin
 use Rattle.std.specs.Option.{option_and_then, option_map, option_map_or, unwrap_or}
 use Rattle.std.proofs.lemmas.Bool.Decides.{eqb_tells}
@@ -12,7 +12,8 @@ use Rattle.machine_names.specs.Orders.{FilePage}
 use Rattle.page_homes.specs.declared.homes.Home.{Home}
 use Rattle.page_contracts.specs.DrumWords.{DrumWords}
 use Rattle.page_contracts.specs.Pages.{Agrees, AreHoused, Housed, a_map, a_page, home_for}
-use Rattle.page_contracts.specs.Stores.{HomePlace, IsSound, StoreMeaning, away, away_at, away_home, away_of, free, free_homes, here, is_free, is_taken, place}
+use Rattle.page_contracts.specs.Stores.{HomePlace, IsSound, StoreMeaning, away, away_at, away_home, away_of, free, here, is_taken, place}
+use Rattle.page_contracts.proofs.HomeCounts.{taken_or_free}
 use Rattle.plain_pages.specs.WholePages.{AreWhole}
 use Rattle.flat_pages.specs.SlotMeaning.{AreTold, sound_within}
 use Rattle.flat_pages.specs.SlotTouches.{home_named}
@@ -59,16 +60,6 @@ none_counted (m ∷ maps) f none (suc k) e = none_counted maps f (omega (arith, 
 
 pub paged_alone : (b : Beside) (f : ForkName) → forks_in b f.tty ≡ 0 → lives_in b f ≡ false
 paged_alone b f none = elim (searched b.tables.maps f) [ inl r ↦ absurd (none_counted b.tables.maps f none r.0 r.2) | inr r ↦ ap is_some r.0 ]
-
--- a home is taken, or it is free
-taken_or_free : (ps : List HomePlace) → count_by is_taken ps + free_homes ps ≡ length ps
-taken_or_free [] = refl
-taken_or_free (p ∷ ps) = omega (arith, one p, taken_or_free ps, sum_by-cons (λ (q : HomePlace). cond (is_taken q) 1 0) p ps, sum_by-cons (λ (q : HomePlace). cond (is_free q) 1 0) p ps)
-  where
-    one : (q : HomePlace) → ◌≡◌ {A = ℕ} (cond (is_taken q) 1 0 + cond (is_free q) 1 0) 1
-    one free = refl
-    one away = refl
-    one (here words) = refl
 
 -- the home of a fork's map is that of the map of its number
 map_stands : (b : Beside) (f : ForkName) (home : ℕ) → map_home_over b f ≡ Some home → (k : ℕ) × (index_of b.tables.maps f ≡ Some k) × ((root_at b.tables.maps k).0 ≡ home)
@@ -175,7 +166,7 @@ module _ {P S : Type 0} (store : StoreMeaning S) (part : P → S) (beside : P �
     page_homes = λ n. refl;
     taken = housed_taken;
     apart = housed_apart;
-    mapped = inr (record { living = maps_living b; taken = homes_taken b places kept });
+    mapped = maps_living b;
     filed = filed_is b places kept;
     frames = refl;
     homes = kept.homes;
@@ -199,6 +190,7 @@ module _ {P S : Type 0} (store : StoreMeaning S) (part : P → S) (beside : P �
           bound = refl;
           room = memory_told.room d drum;
           housed = λ n. memory_told.housed d n drum;
+          taken = homes_taken b places kept ∙ memory_told.number d drum;
           absent_pages = λ n home is. sym (memory_told.housed d n drum) ∙ (away_some places (home_named b.tables.names n) home is).0;
           absent_maps = λ f home is. sym (living f) ∙ (map_is_away b places kept f home is).0;
         }

@@ -13,6 +13,7 @@ use Rattle.page_homes.specs.declared.homes.Home.{Home}
 use Rattle.page_contracts.specs.DrumWords.{DrumWords}
 use Rattle.page_contracts.specs.Pages.{IsPlace, spot_of}
 use Rattle.page_contracts.specs.Stores.{HomePlace, FitsHomes, content, free, away, here, free_homes, is_free, is_taken, over_drum, place, with_word_in}
+use Rattle.page_contracts.proofs.HomeCounts.{free_mapped}
 use Rattle.plain_pages.specs.References.{stored}
 use Rattle.pager_walk.specs.declared.map_pages.MapPage.{MapPage}
 use Rattle.pager_walk.specs.MapPages.{fork_at, root_at, index_of}
@@ -30,20 +31,6 @@ use Rattle.slot_paged.specs.PagedTables.{Beside, AreKept, FitsPages, in_memory_o
 use Rattle.slot_paged.proofs.Homed.{homed_named, place_stands, place_tells, reached_there, sized}
 use Rattle.slot_paged.proofs.Places.{IsNoRoot, fits_places, place_here, place_same, places_set}
 use Rattle.slot_paged.proofs.Touched.{named_apart}
-
-free_taken : (p : HomePlace) → is_free p ≡ not (is_taken p)
-free_taken free = refl
-free_taken away = refl
-free_taken (here words) = refl
-
-pub free_mapped : (ps qs : List HomePlace) → map is_taken ps ≡ map is_taken qs → free_homes ps ≡ free_homes qs
-free_mapped ps qs same = count ps ∙ ap (λ bs. sum_by (λ b. cond (not b) 1 0) bs) same ∙ sym (count qs)
-  where
-    count : (ps : List HomePlace) → free_homes ps ≡ sum_by (λ b. cond (not b) 1 0) (map is_taken ps)
-    count [] = refl
-    count (p ∷ ps) =
-        let here : ◌≡◌ {A = ℕ} (cond (is_free p) 1 0) (cond (not (is_taken p)) 1 0) = ap (λ b. cond b 1 0) (free_taken p) in
-        omega (arith, here, count ps, sum_by-cons (λ (q : HomePlace). cond (is_free q) 1 0) p ps, sum_by-cons (λ (b : Bool). cond (not b) 1 0) (is_taken p) (map is_taken ps))
 
 -- what is kept beside a store rests on which homes are taken alone
 pub kept_moved : (b : Beside) (places places' : List HomePlace) → AreKept b places → map is_taken places' ≡ map is_taken places → AreKept b places'

@@ -1,5 +1,5 @@
 -- What the clauses of pages say of maps that are pages of a store.
-use Rattle.std.specs.Prelude.{ℕ, ◌+◌, Option}
+use Rattle.std.specs.Prelude.{ℕ, ◌+◌, true, Option}
 use Rattle.std.specs.Option.{option_map}
 use Rattle.std.specs.FinMap as fin
 use Rattle.machine_names.specs.declared.names.ForkName.{ForkName}
@@ -48,6 +48,7 @@ paged_slots store part beside = record {
   most = λ p. (beside p).limit;
   most_forks = MOST_FORKS;
   flat = store.flat;
+  paged = true;
   space = λ p. space_over (beside p);
   place = λ p. place_over (store.found (part p)) (beside p) (store.homes (part p));
   map_home = λ p. map_home_over (beside p);
