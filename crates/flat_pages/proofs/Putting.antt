@@ -1,14 +1,13 @@
 -- A word is put into the page of a home, and places of homes change while none is taken or given up.
-use Rattle.std.proofs.Common.{◌≡◌, ◌≢◌, inl, inr, ℕ, ◌<◌, List, [], ◌∷◌, Bool, false, not, cond, Option, Some, length, map, refl, sym, ◌∙◌, ap, arith}
+use Rattle.std.proofs.Common.{◌≡◌, ◌≢◌, inl, inr, ℕ, ◌<◌, List, false, cond, Option, Some, length, map, sym, ◌∙◌, ap, arith}
 use Rattle.std.specs.Prelude.{slice_index_or, slice_set}
-use Rattle.std.specs.List.{sum_by}
 use Rattle.std.specs.Option.{option_map_or, unwrap_or}
 use Rattle.std.specs.FinMap as fin
 use Rattle.std.proofs.Math.ListN.{get_or-map}
 use Rattle.std.proofs.Math.Path.{fun_ext}
 use Rattle.std.proofs.lemmas.Bool.{cases_eq, cases_lt}
 use Rattle.std.proofs.lemmas.List.{length-set, length-map, get_or-set_same, get_or-set_other, get_or_past}
-use Rattle.std.proofs.lemmas.List.Sums.{sum_by-set, sum_by-cons}
+use Rattle.std.proofs.lemmas.List.Sums.{sum_by-set}
 use Rattle.machine_names.specs.declared.names.PageName.{PageName}
 use Rattle.page_homes.specs.declared.homes.Home.{Home}
 use Rattle.machine_names.specs.declared.names.Place.{Place}
@@ -18,7 +17,7 @@ use Rattle.plain_pages.specs.Room.{same_page}
 use Rattle.plain_pages.specs.References.{words_of, with_word, stored}
 use Rattle.machine_names.specs.PageWords.{zero_words}
 use Rattle.page_contracts.specs.Pages.{spot_of}
-use Rattle.page_contracts.specs.Stores.{HomePlace, free, away, here, place, is_free, is_taken, with_word_in, free_homes, content}
+use Rattle.page_contracts.specs.Stores.{HomePlace, free, here, place, is_free, is_taken, with_word_in, free_homes, content}
 use Rattle.machine_names.proofs.OrderLemmas.{page_cmp_total, page_cmp_apart, page_tied}
 use Rattle.plain_pages.proofs.Counts.{Same, page_tells}
 use Rattle.flat_pages.specs.HeldMaps.{name_at}

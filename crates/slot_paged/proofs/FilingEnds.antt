@@ -1,8 +1,7 @@
 -- The pages of a file that go one after another.
-use Rattle.std.proofs.Common.{◌≡◌, inl, inr, ℕ, ◌+◌, ◌≤◌, Bool, true, false, cond, Option, None, Some, is_some, refl, sym, ◌∙◌, ap, subst, arith}
-use Rattle.std.specs.Prelude.{◌⊎◌, nat_lt}
+use Rattle.std.proofs.Common.{◌≡◌, inl, inr, ℕ, ◌+◌, ◌≤◌, Bool, Option, None, Some, is_some, refl, sym, ◌∙◌, ap, subst, arith}
+use Rattle.std.specs.Prelude.{◌⊎◌}
 use Rattle.std.specs.FinMap as fin
-use Rattle.std.specs.Cmp.{nat_cmp_total}
 use Rattle.std.specs.Option.{option_map, unwrap_or}
 use Rattle.std.proofs.lemmas.Bool.{cases_eq, cases_lt}
 use Rattle.machine_names.specs.declared.names.PageName.{PageName}
@@ -15,14 +14,10 @@ use Rattle.page_contracts.specs.Stores.{IsSound, StoreMeaning, free, place, traf
 use Rattle.page_contracts.proofs.Losing.{keeps_frames, loses_nothing, loses_on, none_on}
 use Rattle.plain_pages.specs.PlainPages.{NumberedPages}
 use Rattle.plain_pages.specs.FilePages.{with_file, without_file}
-use Rattle.plain_pages.specs.Room.{uses}
-use Rattle.plain_pages.specs.WholePages.{AreWhole}
-use Rattle.plain_pages.proofs.Kept.{unnamed_gone}
-use Rattle.plain_pages.proofs.FilesKept.{filed_files, filed_maps, filed_still, set_elsewhere, uses_filed}
 use Rattle.flat_pages.specs.FileSteps.{AreFewerFiled, FileHas, IsFiled}
 use Rattle.flat_pages.specs.SlotTouches.{home_named}
 use Rattle.flat_pages.proofs.Agreement.{tables_whole}
-use Rattle.flat_pages.proofs.EmptyMaps.{core_on, less_used}
+use Rattle.flat_pages.proofs.EmptyMaps.{core_on}
 use Rattle.flat_pages.proofs.EntrySetting.{same_core}
 use Rattle.flat_pages.proofs.FileEnds.{fewer_filed, fewer_itself, fewer_on, fewer_without}
 use Rattle.flat_pages.proofs.FiledHomes.{get_filed}

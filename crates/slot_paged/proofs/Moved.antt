@@ -1,18 +1,17 @@
 -- Pages that are used, put into, or moved between frames and the drum: what is told of them stays told.
-use Rattle.std.proofs.Common.{◌≡◌, inl, inr, ℕ, suc, List, [], ◌∷◌, Bool, false, not, cond, Option, None, Some, is_some, length, map, refl, sym, ◌∙◌, ap, subst, arith, sum_by}
+use Rattle.std.proofs.Common.{◌≡◌, inl, inr, ℕ, suc, List, [], ◌∷◌, false, Option, None, Some, is_some, length, map, refl, sym, ◌∙◌, ap, subst, arith}
 use Rattle.std.specs.Prelude.{IsSome, slice_index, slice_set}
 use Rattle.std.specs.Option.{option_map_or}
 use Rattle.std.proofs.Math.Path.{fun_ext}
 use Rattle.std.proofs.lemmas.Bool.{cases_eq, cases_lt}
 use Rattle.std.proofs.lemmas.List.{get_or-set_same, get_or_past, length-map, length-set, map-set}
-use Rattle.std.proofs.lemmas.List.Sums.{sum_by-cons}
 use Rattle.outside.specs.Drums.{page_at as drum_page}
 use Rattle.machine_names.specs.declared.names.ForkName.{ForkName}
 use Rattle.machine_names.specs.declared.names.Place.{Place}
 use Rattle.page_homes.specs.declared.homes.Home.{Home}
 use Rattle.page_contracts.specs.DrumWords.{DrumWords}
 use Rattle.page_contracts.specs.Pages.{IsPlace, spot_of}
-use Rattle.page_contracts.specs.Stores.{HomePlace, FitsHomes, content, free, away, here, free_homes, is_free, is_taken, over_drum, place, with_word_in}
+use Rattle.page_contracts.specs.Stores.{HomePlace, FitsHomes, content, free, here, free_homes, is_taken, over_drum, place, with_word_in}
 use Rattle.page_contracts.proofs.HomeCounts.{free_mapped}
 use Rattle.plain_pages.specs.References.{stored}
 use Rattle.pager_walk.specs.declared.map_pages.MapPage.{MapPage}
