@@ -108,3 +108,13 @@ returns-in_default-clause-caused g c =
     c.new-writer.ensures.out (search rules) c.new-writer.ensures.rec (search rules)
     (caused_given_up g.S.Source.fault_count g.T.Sink.fault_count g.R.Sink.fault_count g.D.Drum.fault_count c.args.script.now c.drive-driven.new.script c.args.drum.now c.drive-driven.new.drum w v u onward c.drive-driven.ensures.read_later c.drive-driven.ensures.drum.faults_later
     c.drive-driven.result c.args.events _ _ (sym c.last.ensures ∙ c.in_default.is) c.new-writer.ensures.faults c.drive-driven.ensures.cause c.give_up.ensures.later)
+
+pub returns-in_default-clause-handed : goal.returns-in_default-clause-handed
+returns-in_default-clause-handed g c =
+    let w = c.new-writer.result in
+    let v = c.drive-driven.new.taker in
+    let u = c.give_up.new.self in
+    let onward = c.drive-driven.ensures.onward.each w (onward_start g.T.Sink.fault_count g.R.Sink.fault_count w) in
+    moved (λ o o' r r'. HandedOn g.T.Sink.handed_on g.R.Sink.handed_on g.T.Sink.fault_count g.R.Sink.fault_count o o' r r' WriteFault)
+    c.new-writer.ensures.out (search rules) c.new-writer.ensures.rec (search rules)
+    (handed_unclosed g.T.Sink.handed_on g.R.Sink.handed_on g.T.Sink.fault_count g.R.Sink.fault_count w v u onward c.give_up.ensures.tried)
