@@ -37,7 +37,7 @@ IsAllowed c (Pins f) = IsSome (seat_of c f)
 IsAllowed c (Unpins f) = 0 < pins_of c f
 IsAllowed c (Moves f on) = ⊤
 IsAllowed c (Uses f) = ⊤
-IsAllowed c (Writes f ws) = 0 < holds_of c f
+IsAllowed c (Writes f ws) = IsSome (seat_of c f)
 
 -- the frames after all of these
 abbrev pub after_all : Core → List Deed → Core

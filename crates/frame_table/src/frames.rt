@@ -23,9 +23,9 @@ pub const MOST_HOLDS: u32 = u32::MAX;
 // How many homes there are at most.
 const HOMES: usize = MOST_HOMES as usize;
 
-/// The frames of core with the words that they hold. A frame is free, or it is taken by the page of
-/// a home, and no home's page takes two. Uses are numbered, and the age of a frame is the number of
-/// its last use.
+/// The frames of core with the words that they hold (CACM paper, "The memory management"). A frame is
+/// free, or it is taken by the page of a home, and no home's page takes two. Uses are numbered, and the
+/// age of a frame is the number of its last use.
 #[derive(Drop)]
 pub struct Frames {
     seats: Vec<Option<Tenant>>,
@@ -142,7 +142,7 @@ impl Frames {
         }
     }
 
-    /// A word of a frame that is taken.
+    /// The word at an offset, 0 to 511, of a frame that is taken.
     pub fn word(&self, f: FrameId, at: u16) -> u64
         requires taken { IsSome (seat_of self.now f.0) }
         requires at { at < PAGE_WORDS }
@@ -262,7 +262,7 @@ impl Frames {
         &mut self.pages[hold.frame().0 as usize]
     }
 
-    /// Puts a word into a frame that is taken. All else stays.
+    /// Puts a word at an offset, 0 to 511, of a frame that is taken. All else stays.
     #[inline(always)]
     pub fn put(&mut self, f: FrameId, at: u16, word: u64)
         requires taken { IsSome (seat_of self.old f.0) }
@@ -299,8 +299,8 @@ impl Frames {
         Some(FrameId(f as u32))
     }
 
-    /// Gives the free frame of least number to the page of a home, which is in no frame. The words
-    /// of the frame stay as they were. None exactly where no frame is free, and then all stays.
+    /// Gives the free frame of least number to the page of a home below 16,384, which is in no frame. The
+    /// words of the frame stay as they were. None exactly where no frame is free, and then all stays.
     pub fn assign(&mut self, home: Home) -> Option<FrameId>
         requires home { home.0 < MOST_HOMES }
         requires away { IsAway self.old home }

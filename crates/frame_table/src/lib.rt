@@ -1,6 +1,6 @@
 //! The frames of core: which home's page each of them holds, who holds on to it, and which one goes next.
 //! To the layers above it is the list of the frames with their words and their ages, the numbers of their last uses.
-//! Stands on tournament for the least ages that are known, number_set for the least free frame, number_map for the frames by home, and machine_names for homes and frames.
+//! Stands on tournament for the least ages that are known, number_set for the least free frame, number_map for the frames by home, and page_homes for homes and frames.
 #![tactic(auto)]
 
 mod frames;

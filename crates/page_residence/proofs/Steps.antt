@@ -10,7 +10,7 @@ use Rattle.page_homes.specs.declared.homes.Home.{Home}
 use Rattle.page_homes.specs.declared.homes.FrameId.{FrameId}
 use Rattle.frame_order.specs.FrameOrder.{IsOnce}
 use Rattle.frame_table.specs.declared.tenant.Tenant.{Tenant}
-use Rattle.frame_table.specs.Core.{Core, seat_of, home_in, is_held, is_kept, with_tenant, with_words, with_page, without_page, new_tenant, next_use, used, IsAway}
+use Rattle.frame_table.specs.Core.{IsLeastFree, Core, seat_of, home_in, is_held, is_kept, with_tenant, with_words, with_page, without_page, new_tenant, next_use, used, IsAway}
 use Rattle.frame_table.proofs.HeldFrames.{hold_spent}
 use Rattle.drum_queue.specs.declared.transfer.Transfer.{Transfer}
 use Rattle.drum_queue.specs.declared.transfer.Transfer.TheVariants.{Read, Write}
@@ -323,19 +323,20 @@ resident_expected c q f h r below none away =
     (sym (ap is_some (pushed_own f.0 q.queued (Read f h) refl idle)))
     (λ still. absurd (true≢false (sym (ap reads (pushed_own f.0 q.queued (Read f h) refl idle)) ∙ still))))
 
-pub given_expected : (c : Core) (f : ℕ) (h : Home) → f < length c.seats → seat c.seats f ≡ None → IsGivenTo h.0 f c.seats (with_tenant (with_page c f h) f (marked true)).seats
-given_expected c f h below none = record {
-  below = below;
-  vacant = none;
+pub given_expected : (c : Core) (f : ℕ) (h : Home) → IsLeastFree c f → IsGivenTo h.0 f c.seats (with_tenant (with_page c f h) f (marked true)).seats
+given_expected c f h frame = record {
+  below = frame.below;
+  vacant = frame.free;
+  least = frame.taken;
   tenant = record (new_tenant h c.uses) { in_transfer = true };
   home = refl;
   unpinned = refl;
-  seats = ap (λ (s : Option Tenant). set (set c.seats f (Some (new_tenant h c.uses))) f (option_map (marked true) s)) (seat_same c.seats f (Some (new_tenant h c.uses)) below)
+  seats = ap (λ (s : Option Tenant). set (set c.seats f (Some (new_tenant h c.uses))) f (option_map (marked true) s)) (seat_same c.seats f (Some (new_tenant h c.uses)) frame.below)
       ∙ Rattle.std.proofs.lemmas.List.set-set c.seats f (Some (new_tenant h c.uses)) (Some (record (new_tenant h c.uses) { in_transfer = true }));
 }
 
-pub given_seated : (c : Core) (f : ℕ) (h : Home) (ws : List ℕ) → f < length c.seats → seat c.seats f ≡ None → IsGivenTo h.0 f c.seats (with_words (with_page c f h) f ws).seats
-given_seated c f h ws below none = record { below = below; vacant = none; tenant = new_tenant h c.uses; home = refl; unpinned = refl; seats = refl }
+pub given_seated : (c : Core) (f : ℕ) (h : Home) (ws : List ℕ) → IsLeastFree c f → IsGivenTo h.0 f c.seats (with_words (with_page c f h) f ws).seats
+given_seated c f h ws frame = record { below = frame.below; vacant = frame.free; least = frame.taken; tenant = new_tenant h c.uses; home = refl; unpinned = refl; seats = refl }
 
 -- a write is queued
 pub resident_dismissed : (c : Core) (q : Transfers) (f : FrameId) (h : Home) → Agrees c q → home_at c.seats f.0 ≡ Some h.0 → transfer_of f.0 q.queued ≡ None

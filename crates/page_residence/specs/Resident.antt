@@ -1,5 +1,5 @@
 -- Which home's page each frame has, which transfers move it, and where the pages of all homes are.
-use Rattle.std.specs.Prelude.{◌≡◌, ◌⊎◌, ℕ, suc, ◌<◌, ◌==◌, ◌≢◌, List, [], ◌∷◌, length, map, Bool, true, false, not, ◌&&◌, Option, None, Some, is_some, is_none, count_by, if◌then◌else◌, slice_index_or, slice_set}
+use Rattle.std.specs.Prelude.{◌≡◌, ◌⊎◌, ℕ, suc, ◌<◌, ◌==◌, ◌≢◌, List, [], ◌∷◌, length, map, Bool, true, false, not, ◌&&◌, Option, None, Some, IsSome, is_some, is_none, count_by, if◌then◌else◌, slice_index_or, slice_set}
 use Rattle.std.specs.Option.{option_map, option_map_or}
 use Rattle.outside.specs.Drums.{IsPage}
 use Rattle.page_contracts.specs.declared.answers.Found.{Found}
@@ -149,10 +149,11 @@ pub record IsRenewed (f : ℕ) (old new : Seats) : Type 0 where
   pub youngest : is_some (seat new f) ≡ true → (g : ℕ) → g ≢ f → is_some (seat new g) ≡ true → (age_in (seat new g) < age_in (seat new f)) ⊎ (age_in (seat new f) ≡ LAST_USE)
   pub others : (g : ℕ) → g ≢ f → age_in (seat new g) ≡ age_in (seat old g)
 
--- a free frame is given to the page of a home, and nobody has pinned it
+-- the free frame of least number is given to the page of a home, and nobody has pinned it
 pub record IsGivenTo (h f : ℕ) (old new : Seats) : Type 0 where
   pub below : f < length old
   pub vacant : seat old f ≡ None
+  pub least : (g : ℕ) → g < f → IsSome (seat old g)
   pub tenant : Tenant
   pub home : tenant.home.0 ≡ h
   pub unpinned : tenant.pins ≡ 0
@@ -171,8 +172,3 @@ pub record IsRepinned (f pins : ℕ) (old new : Seats) : Type 0 where
   pub own : pins_in (seat new f) ≡ pins
   pub spare : count_by is_none new ≡ count_by is_none old
   pub ages : AgesStay old new
-
--- the page of a home is read into a frame, or was not
-pub record HasRead (f : ℕ) (old new : Core) : Type 0 where
-  pub words : List ℕ
-  pub is : new.words ≡ slice_set old.words f words

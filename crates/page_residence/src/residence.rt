@@ -18,7 +18,9 @@ use word36::Word;
 /// The frames of core and the transfers between them and the drum.
 #[derive(Drop)]
 pub struct Residence {
+    /// Which home's page each frame is given to, with its words, its age and its pins.
     pub frames: Frames,
+    /// The transfers of frames that are queued, the oldest first.
     pub queue: Queue,
     ghost resident: { IsResident frames queue },
 }
@@ -198,6 +200,9 @@ impl Residence {
         ensures words { self.new.frames.words ≡ self.old.frames.words }
         ensures queue { self.new.queue.queued ≡ (if result then without f.0 self.old.queue.queued else self.old.queue.queued) }
     {
+        if !self.frames.in_transfer(f) {
+            return false;
+        }
         if !self.queue.rescue(f) {
             return false;
         }

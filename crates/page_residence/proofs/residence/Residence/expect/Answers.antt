@@ -27,4 +27,4 @@ returns-clause-given c f is =
     let s = c.args.self.now in
     let same : c.in-Some.f.0 ≡ f = cc in
     subst (λ (g : ℕ). IsGivenTo c.args.home.0 g s.frames.seats c.set_transfer.new.self.seats) same
-    (rw (c.set_transfer.ensures, c.in-Some.ensures.assigned) (given_expected s.frames c.in-Some.f.0 c.args.home c.in-Some.ensures.frame.below c.in-Some.ensures.frame.free))
+    (rw (c.set_transfer.ensures, c.in-Some.ensures.assigned) (given_expected s.frames c.in-Some.f.0 c.args.home c.in-Some.ensures.frame))

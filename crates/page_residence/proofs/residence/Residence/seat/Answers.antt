@@ -2,7 +2,7 @@ use Rattle.std.proofs.Common.{◌≡◌, is_some, true, arith, rules}
 use Rattle.page_residence.specs.Resident.{seat}
 use Rattle.page_residence.proofs.Agreeing.{agrees, resides}
 use Rattle.page_residence.proofs.Finding.{away_is, none_vacant}
-use Rattle.page_residence.proofs.Steps.{resident_seated}
+use Rattle.page_residence.proofs.Steps.{given_seated, resident_seated}
 use Rattle.page_residence.proofs.Renewing.{given_renews}
 use Rattle.page_residence.proofs.residence.Residence.seat.Goals as goal
 
@@ -28,3 +28,7 @@ pub returns-clause-renews : goal.returns-clause-renews
 returns-clause-renews c =
     let s = c.args.self.now in
     rw (c.fill.ensures, c.in-Some.ensures.assigned) (given_renews s.frames c.in-Some.f.0 c.args.home c.in-Some.ensures.whole c.in-Some.ensures.frame.below)
+
+pub returns-clause-given : goal.returns-clause-given
+returns-clause-given c =
+    rw (c.fill.ensures, c.in-Some.ensures.assigned) (given_seated c.args.self.now.frames c.in-Some.f.0 c.args.home c.args.words.now c.in-Some.ensures.frame)
