@@ -3,6 +3,7 @@ use Rattle.std.proofs.Common.{◌≡◌, ℕ, zero, suc, ◌≤◌, List, [], le
 use Rattle.std.specs.Option.{option_map}
 use Rattle.std.proofs.lemmas.Bool.{false≢true}
 use Rattle.std.proofs.lemmas.List.{length-replicate}
+use Rattle.page_contracts.specs.declared.store.TheConstants.{MOST_HOLDERS}
 use Rattle.page_homes.specs.declared.homes.TheConstants.{MOST_HOMES}
 use Rattle.paged_store.specs.HeldHomes.{held_by, no_holds}
 use Rattle.paged_store.specs.Keeping.{IsKept, is_among, is_distinct}
@@ -17,7 +18,7 @@ pub nothing_held : (k : ℕ) → held_by no_holds k ≡ []
 unfolding no_holds
 nothing_held k = none_held 64 k
 
-room_of_none : length no_holds ≡ 64
+room_of_none : length no_holds ≡ MOST_HOLDERS
 unfolding no_holds
 room_of_none = refl
 

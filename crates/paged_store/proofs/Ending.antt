@@ -20,7 +20,8 @@ use Rattle.page_residence.specs.Resident.{Seats, age_at, seat, home_at, framed, 
 use Rattle.page_residence.proofs.Seating.{frame_is, home_below}
 use Rattle.page_residence.proofs.Agreeing.{Agrees, agrees}
 use Rattle.page_residence.proofs.Queues.{without_own, without_other}
-use Rattle.paged_store.specs.KeptHomes.{kept_stays, kept_taken, still_frame, none_counted}
+use Rattle.paged_store.specs.KeptHomes.{still_frame, none_counted}
+use Rattle.paged_store.proofs.KeptThrough.{kept_stays, kept_taken}
 use Rattle.page_residence.proofs.Placing.{framed_other, place_taken, places_same, reading_in, shown_in}
 use Rattle.page_residence.proofs.Renewing.{keeps_at, renews_at}
 use Rattle.paged_store.proofs.Completing.{arrived_places, departed_places}

@@ -25,7 +25,7 @@ use Rattle.page_residence.proofs.Finding.{found_none, found_reading}
 use Rattle.page_residence.proofs.Queues.{pushed_own, pushed_other}
 use Rattle.paged_store.specs.UntoldNeeds.{Needs}
 use Rattle.paged_store.specs.Keeping.{IsKept}
-use Rattle.paged_store.specs.KeptHomes.{kept_given}
+use Rattle.paged_store.proofs.KeptThrough.{kept_given}
 
 -- a home whose page is away is taken
 away_parts : (b : Bool) (p : HomePlace) → placed b p ≡ away → (b ≡ true) × (p ≡ away)

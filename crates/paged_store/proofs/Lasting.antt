@@ -1,18 +1,23 @@
 -- Where pages stand, and what becomes of them while transfers end.
-use Rattle.std.proofs.Common.{◌≡◌, ◌≢◌, ◌⊎◌, ℕ, zero, suc, ◌+◌, ◌<◌, ◌≤◌, ◌==◌, inl, inr, List, [], ◌∷◌, ◌++◌, length, count_by, Bool, true, false, cond, ◌||◌, refl, sym, ◌∙◌, ap, subst, arith}
+use Rattle.std.proofs.Common.{◌≡◌, ◌≢◌, ◌⊎◌, ℕ, zero, suc, ◌+◌, ◌<◌, ◌≤◌, ◌==◌, inl, inr, List, [], ◌∷◌, ◌++◌, length, count_by, Option, Some, MatchOption, Bool, true, false, not, cond, ◌||◌, refl, sym, ◌∙◌, ap, subst, arith}
 use Rattle.std.specs.Prelude.{nat_lt}
 use Rattle.std.specs.List.{list_any}
-use Rattle.std.proofs.lemmas.Bool.{cases_eq, false≢true, true≢false, eq-eqb, ne_eqb}
+use Rattle.std.specs.Option.{option_map_or}
+use Rattle.std.proofs.lemmas.Bool.{cases_eq, false≢true, true≢false, eq-eqb, ne_eqb, true_from_ne_false}
 use Rattle.std.proofs.lemmas.List.{append-nil, get_or-set_other}
-use Rattle.std.proofs.lemmas.List.Sums.{sum_by-cons}
+use Rattle.std.proofs.lemmas.List.Sums.{sum_by-append, sum_by-cons}
 use Rattle.page_homes.specs.declared.homes.Home.{Home}
 use Rattle.page_contracts.specs.declared.answers.Need.{Need}
-use Rattle.page_contracts.specs.declared.answers.Need.TheVariants.{Page}
-use Rattle.page_contracts.specs.Stores.{Ends, HomePlace, IsFetched, Transfer, arrival, arrives, away, awaited, begins, departure, free, here, home_of, is_arrival, is_here, is_taken, joins, meeting, moves, place, queued, waits}
+use Rattle.page_contracts.specs.declared.answers.Need.TheVariants.{Page, Frame}
+use Rattle.outside.specs.Drums.{page_at}
+use Rattle.page_contracts.specs.DrumWords.{DrumWords}
+use Rattle.drum_queue.specs.Transfers.{transfer_of}
+use Rattle.page_residence.specs.Resident.{page_in, reads}
+use Rattle.page_contracts.specs.Stores.{Ends, HomePlace, IsFetched, content, over_drum, AllStay, IsNext, Meeting, departure_of, Transfer, arrival, arrives, away, awaited, begins, departure, free, here, home_of, is_arrival, is_here, is_taken, joins, meeting, moves, place, queued, waits}
 use Rattle.page_residence.proofs.Aging.{tenant_given, tenant_shown}
 use Rattle.page_residence.proofs.Placing.{here_at}
 use Rattle.paged_store.specs.declared.store.PagedStore.{PagedStore}
-use Rattle.paged_store.specs.OnePlace.{HasOnePlace, HaveEnded}
+use Rattle.paged_store.specs.OnePlace.{HasOnePlace, HaveEnded, words_over}
 use Rattle.paged_store.specs.StoreMeaning.{homes_of, paged_meaning}
 use Rattle.paged_store.specs.StoreSound.{at_frame, paged_sound}
 use Rattle.paged_store.proofs.Using.{shown_words}
@@ -23,6 +28,11 @@ away_from free taken gone = absurd (false≢true taken)
 away_from away taken gone = refl
 away_from (here words) taken gone = absurd (true≢false gone)
 
+-- the words of a page that has this place
+over_words : (s : PagedStore) (d : DrumWords) (h : ℕ) (p : HomePlace) → place (homes_of s) h ≡ p → words_over s d h ≡ over_drum p (page_at d h)
+unfolding content
+over_words s d h p is = ap (λ (q : HomePlace). over_drum q (page_at d h)) is
+
 pub one_place : (s : PagedStore) (h : ℕ) → is_taken (place (homes_of s) h) ≡ true → HasOnePlace s h
 one_place s h taken = at (is_here (place (homes_of s) h)) refl
   where
@@ -31,15 +41,18 @@ one_place s h taken = at (is_here (place (homes_of s) h)) refl
         let there = (here_at s.homes s.core.frames.seats s.core.frames.words s.core.queue.queued h is).1 in
         inl (record {
           frame = there.frame;
+          given = there.given;
+          only = λ other has. s.core.resident.single other there.frame h has there.given;
+          read = there.read;
           has = tenant_shown s.core.frames.seats s.core.queue.queued there.frame there.read ∙ there.given;
-          only = λ other has. s.core.resident.single other there.frame h (tenant_given s.core.frames.seats s.core.queue.queued other h has).0 there.given;
-          words = at_frame s h there.frame there.given ∙ there.shown;
+          words = λ d. over_words s d h (here (page_in s.core.frames.words there.frame)) (at_frame s h there.frame there.given ∙ there.shown);
         })
     at false is = inr (record {
+      reading = λ frame given. true_from_ne_false (reads (transfer_of frame s.core.queue.queued)) (λ read. true≢false (sym (ap is_here (shown_words s frame h given read)) ∙ is));
       none = λ frame has.
           let own = tenant_given s.core.frames.seats s.core.queue.queued frame h has in
           true≢false (sym (ap is_here (shown_words s frame h own.0 own.1)) ∙ is);
-      words = away_from (place (homes_of s) h) taken is;
+      words = λ d. over_words s d h away (away_from (place (homes_of s) h) taken is);
     })
 
 -- so many transfers as are queued
@@ -150,3 +163,47 @@ asked_gets s m n home told fetched ended = at (has_come home.0 (length (paged_me
     at : Comes home.0 n ⊎ HasCome home.0 n → is_here (place (paged_meaning.homes n) home.0) ≡ true
     at (inl comes) = absurd (false≢true (sym (ap (list_any (arrives home.0)) none) ∙ comes.0))
     at (inr has) = has.0
+
+-- whether a page leaves its frame
+abbrev is_departure : Transfer → Bool
+is_departure t = not (is_arrival t)
+
+one_more : (t : Transfer) (ts : List Transfer) → count_by is_departure (t ∷ ts) ≡ cond (is_arrival t) 0 1 + count_by is_departure ts
+one_more (arrival h) ts = sum_by-cons (λ (x : Transfer). cond (is_departure x) 1 0) (arrival h) ts
+one_more (departure h) ts = sum_by-cons (λ (x : Transfer). cond (is_departure x) 1 0) (departure h) ts
+
+-- each page that was leaving has left a frame free, once all transfers have ended that were queued
+frames_left : (k : ℕ) (s n : PagedStore) → k ≡ length (paged_meaning.queue s) → HaveEnded k s n → paged_meaning.spare n ≡ paged_meaning.spare s + count_by is_departure (paged_meaning.queue s)
+frames_left zero s n long ended =
+    let none = none_leave (paged_meaning.queue s) (sym long) in
+    let same = ap paged_meaning.spare ended in
+    omega (arith, none, same)
+  where
+    none_leave : (q : List Transfer) → length q ≡ 0 → count_by is_departure q ≡ 0
+    none_leave [] e = refl
+    none_leave (t ∷ ts) e = absurd (omega (arith, e))
+frames_left (suc k) s n long ended =
+    let e = ended.2 in
+    let more = ap (λ (q : List Transfer). length q) e.oldest in
+    let rest = frames_left k ended.0 n (omega (arith, long, more)) ended.3 in
+    let own = ap (count_by is_departure) e.oldest ∙ one_more e.transfer (paged_meaning.queue ended.0) in
+    omega (arith, rest, own, e.spare)
+
+-- who is told to wait for a frame sends off the page that is next to leave
+sent_off : (s : PagedStore) (frame home : ℕ) (met : Meeting) → awaited met ≡ Frame → paged_meaning.victim s ≡ Some frame → paged_meaning.tenant s frame ≡ Some home
+    → queued paged_meaning s met ≡ departure home ∷ []
+sent_off s frame home (joins h) told some there = absurd (cc told)
+sent_off s frame home (begins h) told some there = absurd (cc told)
+sent_off s frame home waits told some there =
+    ap (departure_of paged_meaning s) some ∙ ap (λ (o : Option ℕ). option_map_or (λ (h : ℕ). departure h ∷ []) o []) there
+
+pub waits_gets : (s m n : PagedStore) (need : Need) (frame : ℕ) → awaited (meeting (paged_meaning.queue s) (paged_meaning.spare s) need) ≡ Frame → paged_meaning.victim s ≡ Some frame
+    → IsFetched paged_meaning need s m → HaveEnded (length (paged_meaning.queue m)) m n → 0 < paged_meaning.spare n
+waits_gets s m n need frame told some fetched ended =
+    let next : IsNext paged_meaning s frame = subst (λ (o : Option ℕ). MatchOption o (AllStay paged_meaning s) (IsNext paged_meaning s)) some (paged_sound s).next in
+    let sent = sent_off s frame next.home (meeting (paged_meaning.queue s) (paged_meaning.spare s) need) told some next.leaves.there in
+    let queue = fetched.queue ∙ ap (λ (q : List Transfer). paged_meaning.queue s ++ q) sent in
+    let left = frames_left (length (paged_meaning.queue m)) m n refl ended in
+    let one = one_more (departure next.home) [] in
+    let last = ap (count_by is_departure) queue ∙ sum_by-append (λ (x : Transfer). cond (is_departure x) 1 0) (paged_meaning.queue s) (departure next.home ∷ []) in
+    omega (arith, left, last, one)

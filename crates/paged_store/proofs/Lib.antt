@@ -1,3 +1,5 @@
+mod KeptThrough
+mod HeldLists
 pub mod Taking
 pub mod Noting
 pub mod Holding

@@ -16,7 +16,7 @@ use Rattle.paged_store.specs.Keeping.{IsKept, members_of}
 use Rattle.page_residence.specs.Resident.{Seats, age_at, frame_for, framed, meant, places, placed, reads, tenant_at, IsGivenTo, IsRenewed}
 use Rattle.page_residence.proofs.Renewing.{given_home, renews_at, tenants_made}
 use Rattle.page_residence.proofs.Seating.{frame_none}
-use Rattle.paged_store.specs.KeptHomes.{kept_given}
+use Rattle.paged_store.proofs.KeptThrough.{kept_given}
 use Rattle.page_residence.proofs.Placing.{place_at, places_length, free_is, framed_busy}
 use Rattle.paged_store.specs.StoreMeaning.{homes_of}
 use Rattle.paged_store.specs.StoreSound.{marked}

@@ -23,7 +23,8 @@ use Rattle.page_residence.specs.Resident.{Seats, age_at, tenant_at, seat, home_a
 use Rattle.page_residence.proofs.Seating.{frame_none, none_has, home_below, seat_same, seat_other}
 use Rattle.page_residence.proofs.Agreeing.{agrees}
 use Rattle.page_residence.proofs.Queues.{bound_at, without_other, idle_kept}
-use Rattle.paged_store.specs.KeptHomes.{kept_taken, none_counted}
+use Rattle.paged_store.specs.KeptHomes.{none_counted}
+use Rattle.paged_store.proofs.KeptThrough.{kept_taken}
 use Rattle.paged_store.specs.StoreSound.{marked}
 use Rattle.paged_store.proofs.Resting.{rescued_idle, rest_homes, stays_there}
 use Rattle.page_residence.proofs.Renewing.{keeps_at, tenants_kept, tenants_left}

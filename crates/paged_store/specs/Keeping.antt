@@ -1,6 +1,8 @@
 -- What a store keeps beside its frames: the homes that are taken, and what is held for whom.
 use Rattle.std.specs.Prelude.{◌≡◌, ℕ, ◌-◌, ◌/◌, ◌≤◌, ◌==◌, List, [], ◌∷◌, length, Bool, true, false, not, ◌&&◌, Option, None, Some, is_some, count_by, slice_index_or}
 use Rattle.std.specs.List.{list_any}
+use Rattle.page_contracts.specs.declared.store.TheConstants.{MOST_HELD, MOST_HOLDERS}
+use Rattle.paged_store.specs.declared.store.TheConstants.{UNHELD_FRAMES}
 use Rattle.page_homes.specs.declared.homes.TheConstants.{MOST_HOMES}
 use Rattle.drum_queue.specs.declared.transfer.Transfer.{Transfer}
 use Rattle.drum_queue.specs.Transfers.{transfer_of}
@@ -29,7 +31,7 @@ is_still seats queue h = still_in queue (frame_for seats h)
 -- each holder of its home.
 pub record IsKept (seats : Seats) (queue : List Transfer) (flags : List Bool) (holders : List (List ℕ)) (untold : Needs) : Type 0 where
   pub few : length flags ≤ MOST_HOMES
-  pub room : length holders ≡ 64
+  pub room : length holders ≡ MOST_HOLDERS
   pub homes : untold.homes ≡ length flags
   pub framed : (f h : ℕ) → home_at seats f ≡ Some h → slice_index_or flags h false ≡ true
   pub held : (k h : ℕ) → is_among h (held_by holders k) ≡ true → is_still seats queue h ≡ true
@@ -38,4 +40,4 @@ pub record IsKept (seats : Seats) (queue : List Transfer) (flags : List Bool) (h
 
 -- how many forks may have their pages in so many frames
 abbrev pub members_of : ℕ → ℕ
-members_of frames = (frames - 32) / 128
+members_of frames = (frames - UNHELD_FRAMES) / MOST_HELD

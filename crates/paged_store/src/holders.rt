@@ -22,17 +22,18 @@ pub struct Holders {
 
 impl Model for Holders {
     ghost use Rattle.std.specs.Prelude.{◌≡◌, ℕ, List, length, map};
+    ghost use Rattle.page_contracts.specs.declared.store.TheConstants.{MOST_HOLDERS};
 
     ghost Value = { List (List ℕ) };
 
     ghost view = { λ s. map (λ v. v.items) s.lists.items };
 
-    ghost invariant = { λ s. length s.lists.items ≡ 64 };
+    ghost invariant = { λ s. length s.lists.items ≡ MOST_HOLDERS };
 }
 
 // So many empty lists.
 fn empty_lists(alloc: Global) -> Result<Vec<ArrayVec<u32, HELD>>, AllocError>
-    ensures { IfOk result (λ v. v.items ≡ replicate 64 (record { items = [] })) }
+    ensures { IfOk result (λ v. v.items ≡ replicate MOST_HOLDERS (record { items = [] })) }
 {
     let mut lists = Vec::with_capacity(alloc, MOST_HOLDERS as usize)?;
     for _holder in 0..MOST_HOLDERS {

@@ -15,14 +15,17 @@ use crate::homes::Homes;
 use crate::untold::Untold;
 use drum_queue::Transfer;
 use outside::{Drum, Memory, PAGE_WORDS};
-use page_contracts::{Completed, Found, MOST_HOLDERS, Need, Room, Store};
+use page_contracts::{Completed, Found, MOST_HELD, MOST_HOLDERS, Need, Room, Store};
 use page_homes::{FrameId, Home, MOST_HOMES};
 use page_residence::Residence;
 use std::alloc::Global;
 use word36::Word;
 
-/// Pages under homes in frames of core and on a drum. A page has one place: its words are in a frame, or they are on
-/// the drum alone. Nothing is allocated after the boot.
+/// How many frames are held for no fork, at least, where there are so many.
+pub const UNHELD_FRAMES: u32 = 32;
+
+/// Pages under homes in frames of core and on a drum (CACM paper, "The memory management"). A page has one place: its
+/// words are in a frame, or they are on the drum alone. Nothing is allocated after the boot.
 #[derive(Drop)]
 pub struct PagedStore {
     core: Residence,
@@ -47,8 +50,8 @@ impl PagedStore {
     ghost use Rattle.paged_store.specs.StoreMeaning.{paged_meaning};
     ghost use Rattle.paged_store.specs.StoreSteps.{HasReleased, IsAtRest, IsInPlace, all_but, departing};
 
-    /// So many frames and homes, all of them free; nothing is held and no transfer is queued. Memory where there is
-    /// none for them.
+    /// So many frames, and so many homes, 16,384 at most, all of them free; nothing is held and no transfer is queued.
+    /// Memory where there is none for them.
     pub fn boot(alloc: Global, frames: u32, pages: u32) -> Result<PagedStore, Memory>
         requires { pages ≤ MOST_HOMES }
         ensures homes { IfOk result (λ s. ⟦<PagedStore as Store>⟧.means.homes s ≡ replicate pages free) }
@@ -362,7 +365,7 @@ impl Store for PagedStore {
     }
 
     fn members(&self) -> u32 {
-        self.core.len().saturating_sub(32) / 128
+        self.core.len().saturating_sub(UNHELD_FRAMES) / MOST_HELD
     }
 
     ghost sound = { paged_sound };

@@ -2,7 +2,8 @@ use Rattle.std.proofs.Common.{◌≡◌, ◌∙◌, false, ℕ, sym, arith}
 use Rattle.std.proofs.lemmas.Bool.Decides.{nat_tests}
 use Rattle.std.specs.Prelude.{nat_lt}
 use Rattle.page_residence.proofs.Seating.{frame_has, home_below}
-use Rattle.paged_store.specs.KeptHomes.{uncounted, unheld_away}
+use Rattle.paged_store.specs.KeptHomes.{uncounted}
+use Rattle.paged_store.proofs.KeptThrough.{unheld_away}
 use Rattle.paged_store.proofs.store.PagedStore.is_held.Goals as goal
 
 pub is_pinned-requires : goal.is_pinned-requires

@@ -3,7 +3,7 @@ use Rattle.page_contracts.specs.Stores.{is_taken, place}
 use Rattle.paged_store.specs.declared.store.PagedStore.{PagedStore}
 use Rattle.paged_store.specs.HeldHomes.{held_by}
 use Rattle.paged_store.specs.Keeping.{IsKept, is_among}
-use Rattle.paged_store.specs.KeptHomes.{others_none}
+use Rattle.paged_store.proofs.HeldLists.{others_none}
 use Rattle.page_residence.proofs.Placing.{taken_at}
 use Rattle.page_residence.specs.Resident.{frame_for}
 use Rattle.page_residence.proofs.Seating.{frame_has}
