@@ -1,12 +1,12 @@
 -- Each word is that of one pointer at most, which is read from it.
-use Rattle.std.proofs.Common.{◌≡◌, ℕ, ◌+◌, ◌*◌, ◌/◌, ◌%◌, ◌^◌, ◌<◌, ◌≤◌, ◌==◌, ◌&&◌, ◌⊎◌, inl, inr, Bool, true, false, cond, Option, None, Some, nat_lt, nat_le, refl, sym, ◌∙◌, ap, subst, arith, rules}
+use Rattle.std.proofs.Common.{◌≡◌, ℕ, ◌+◌, ◌*◌, ◌/◌, ◌%◌, ◌<◌, ◌≤◌, ◌==◌, ◌&&◌, ◌⊎◌, inl, inr, Bool, true, false, cond, Option, None, Some, nat_lt, nat_le, refl, sym, ◌∙◌, ap, subst, arith, rules}
 use Rattle.std.specs.Prelude.{IfSome}
 use Rattle.std.proofs.lemmas.Bool.Decides.{nat_tests, eqb_tells}
 use Rattle.machine_names.specs.declared.names.Access.{Access}
 use Rattle.machine_names.specs.declared.names.TheConstants.{LAST_SERIAL, SPACE_PAGES}
 use Rattle.share_table.specs.declared.pointer.Pointer.{Pointer}
 use Rattle.share_table.specs.declared.pointer.Pointer.TheVariants.{Empty, Private, Shared, Indirect}
-use Rattle.share_table.specs.Pointers.{bit_of, access_bits, fields, pointer_word, IsPointer}
+use Rattle.share_table.specs.Pointers.{bit_of, access_bits, accesses, one_access, one_kind, one_page, fields, pointer_word, IsPointer}
 use Rattle.pager_walk.specs.Decoding.{access_in, pointer_for, named_in, fits_word, checked, pointer_in}
 
 -- what four bits permit comes back
@@ -31,28 +31,28 @@ bits_back a = by a.r a.w a.x a.c
     by false false false true = refl
     by false false false false = refl
 
-bits_below : (a : Access) → access_bits a < 16
+bits_below : (a : Access) → access_bits a < accesses
 bits_below a = by a.r a.w a.x a.c
   where
     bit : (b : Bool) → bit_of b ≤ 1
     bit true = omega arith
     bit false = omega arith
 
-    by : (r w x c : Bool) → bit_of r * 8 + bit_of w * 4 + bit_of x * 2 + bit_of c < 16
+    by : (r w x c : Bool) → bit_of r * 8 + bit_of w * 4 + bit_of x * 2 + bit_of c < accesses
     by r w x c = omega (arith, bit r, bit w, bit x, bit c)
 
 -- the fields of a word
-module _ (k b p n : ℕ) (kl : k < 4) (bl : b < 16) (pl : p < 512) (nl : n < 2 ^ 18) where
-  kind_back : fields k b p n / 2 ^ 34 ≡ k
+module _ (k b p n : ℕ) (kl : k < 4) (bl : b < accesses) (pl : p < SPACE_PAGES) (nl : n < one_page) where
+  kind_back : fields k b p n / one_kind ≡ k
   kind_back = omega (arith, kl, bl, pl, nl)
 
-  bits_of : fields k b p n / 2 ^ 30 % 16 ≡ b
+  bits_of : fields k b p n / one_access % accesses ≡ b
   bits_of = omega (arith, kl, bl, pl, nl)
 
-  page_back : fields k b p n / 2 ^ 18 % 512 ≡ p
+  page_back : fields k b p n / one_page % SPACE_PAGES ≡ p
   page_back = omega (arith, kl, bl, pl, nl)
 
-  number_back : fields k b p n % 2 ^ 18 ≡ n
+  number_back : fields k b p n % one_page ≡ n
   number_back = omega (arith, kl, bl, pl, nl)
 
   fields_back : named_in (fields k b p n) ≡ pointer_for k (access_in b) p n

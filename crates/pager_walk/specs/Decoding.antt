@@ -1,12 +1,12 @@
 -- Which pointer a word stands for.
-use Rattle.std.specs.Prelude.{ℕ, ◌/◌, ◌%◌, ◌^◌, Bool, true, ◌&&◌, ◌==◌, nat_lt, nat_le, Option, None, Some, if◌then◌else◌}
+use Rattle.std.specs.Prelude.{ℕ, ◌/◌, ◌%◌, Bool, true, ◌&&◌, ◌==◌, nat_lt, nat_le, Option, None, Some, if◌then◌else◌}
 use Rattle.machine_names.specs.declared.names.Access.{Access}
 use Rattle.machine_names.specs.declared.names.TheConstants.{LAST_SERIAL, SPACE_PAGES}
 use Rattle.page_homes.specs.declared.homes.TheConstants.{MOST_HOMES}
 use Rattle.share_table.specs.declared.pointer.Pointer.{Pointer}
 use Rattle.share_table.specs.declared.pointer.Pointer.TheVariants.{Empty, Private, Shared, Indirect}
 use Rattle.share_table.specs.declared.shares.TheConstants.{MOST_SHARES}
-use Rattle.share_table.specs.Pointers.{pointer_word}
+use Rattle.share_table.specs.Pointers.{accesses, one_access, one_kind, one_page, pointer_word}
 
 -- what four bits permit: to read, to write, to execute, and whether a copy is made first
 abbrev pub access_in : ℕ → Access
@@ -19,7 +19,7 @@ pointer_for kind access page number =
 
 -- the pointer that the fields of a word name
 abbrev pub named_in : ℕ → Pointer
-named_in w = pointer_for (w / 2 ^ 34) (access_in (w / 2 ^ 30 % 16)) (w / 2 ^ 18 % 512) (w % 2 ^ 18)
+named_in w = pointer_for (w / one_kind) (access_in (w / one_access % accesses)) (w / one_page % SPACE_PAGES) (w % one_page)
 
 -- whether the numbers of a pointer fit its word
 abbrev pub fits_word : Pointer → Bool

@@ -9,7 +9,8 @@ use Rattle.machine_names.specs.declared.names.Kind.{Kind}
 use Rattle.machine_names.specs.declared.names.Kind.TheVariants.{Read, Write, Execute}
 use Rattle.machine_names.specs.declared.names.TheConstants.{SPACE_PAGES}
 use Rattle.page_homes.specs.declared.homes.Home.{Home}
-use Rattle.plain_pages.specs.Maps.{Chain, chain, entry_at, followed, full_access, maps_on_way, permits}
+use Rattle.plain_pages.specs.declared.map.MapEntry.{MapEntry}
+use Rattle.plain_pages.specs.Maps.{Chain, Entries, chain, entry_at, followed, full_access, maps_on_way, permits}
 use Rattle.page_contracts.specs.DrumWords.{DrumWords}
 use Rattle.page_contracts.specs.Stores.{HomePlace}
 use Rattle.pager_walk.specs.declared.paged_entry.PagedEntry.TheVariants.{Empty, Page, Follows}
@@ -18,7 +19,7 @@ use Rattle.pager_walk.specs.declared.paged_entry.Looked.TheVariants.{Is, Absent 
 use Rattle.pager_walk.specs.declared.chain_walk.Way.{Way}
 use Rattle.pager_walk.specs.declared.chain_walk.Walked.{Walked}
 use Rattle.pager_walk.specs.declared.chain_walk.Walked.TheVariants.{Along, Absent, NoChain}
-use Rattle.pager_walk.specs.PagedMaps.{Tables, name_at, name_of, look_at, is_near, map_away, maps_over, IsAwayMap}
+use Rattle.pager_walk.specs.PagedMaps.{Tables, name_at, name_of, plain_entry, look_at, is_near, map_away, maps_over, IsAwayMap}
 
 -- a walk that ends at an entry with this access
 abbrev pub walk_end : Slot → Access → Option Home → Way
@@ -58,6 +59,17 @@ walk_within (suc n) t places s = walk_from s (look_at t places s) (walk_within n
 -- the walk along the chain of a slot
 unfoldable pub walk_at : Tables → List HomePlace → Slot → Walked
 walk_at t places s = walk_within 4 t places s
+
+-- the entry that a look finds, as the plain maps have it, if it finds one
+abbrev pub entry_found : List (Option PageName) → Looked → Option MapEntry
+entry_found names (Is e) = Some (plain_entry names e)
+entry_found names (MapAbsent home) = None
+entry_found names Missing = None
+entry_found names Refused = None
+
+-- the entry of each slot that a look finds, whatever a drum says
+abbrev pub entries_found : Tables → List HomePlace → Entries
+entries_found t places s = entry_found t.names (look_at t places s)
 
 -- whether a reference is permitted
 abbrev pub allows_along : Kind → Way → Bool

@@ -138,9 +138,9 @@ fn walk_along<S: Store>(store: &S, tables: &MapTables, most: u32, at: Slot) -> W
     }
 }
 
-/// The walk from a slot along its chain, entry by entry: at most four entries, each of a fork that has a
-/// map. Absent names the first map on the way that is in no frame. A word that stands for no entry has
-/// no chain.
+/// The walk from a slot along its chain, entry by entry (CACM paper, "The memory management"): at most four
+/// entries, each of a fork that has a map. Absent names the first map on the way that is in no frame. A word
+/// that stands for no entry has no chain.
 pub fn walk<S: Store>(store: &S, tables: &MapTables, at: Slot) -> Walked
     requires rooted { AreRooted (tables_of tables.now) (map is_taken (S.means.homes store.now)) }
     requires page { at.page < SPACE_PAGES }

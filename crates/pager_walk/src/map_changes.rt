@@ -43,7 +43,7 @@ pub fn set<S: Store>(store: &mut S, tables: &MapTables, at: Slot, pointer: Point
     store.put(home, at.page, encode(pointer));
 }
 
-/// Takes a free home for a zero page with a name. No entry names it yet.
+/// Takes a free home, and a free frame, for a zero page with a name; there are both. No entry names it yet.
 pub fn make_page<S: Store>(store: &mut S, tables: &mut MapTables, name: PageName) -> Home
     requires rooted { AreRooted (tables_of tables.old) (map is_taken (S.means.homes store.old)) }
     requires room { room_of (free_homes (S.means.homes store.old)) (S.means.spare store.old) 1 ≡ Room.Enough }
@@ -82,7 +82,7 @@ pub fn copy_page<S: Store>(
 }
 
 /// A fork gets a map under a number of its terminal that is no fork's: the page of a new home, each of whose
-/// words is that of an empty entry.
+/// words is that of an empty entry. A home and a frame are free for it.
 pub fn begin<S: Store>(store: &mut S, tables: &mut MapTables, number: u32, fork: ForkName) -> Home
     requires rooted { AreRooted (tables_of tables.old) (map is_taken (S.means.homes store.old)) }
     requires absent { index_of tables.old.maps.pages.items fork ≡ None }

@@ -13,7 +13,9 @@ pub const MOST_MAPS: u32 = TERMINALS as u32 * MOST_FORKS as u32;
 /// The fork whose map is the page of a home. Where it is of no fork, the home says nothing.
 #[derive(Clone, Copy, PartialEq, Eq)]
 pub struct MapPage {
+    /// Whose map it is, if it is one.
     pub fork: Option<ForkName>,
+    /// The home whose page is the map.
     pub home: Home,
 }
 
@@ -33,6 +35,7 @@ const NAMES: u32 = TERMINALS as u32 * SERIALS;
 /// found in one step.
 #[derive(Drop)]
 pub struct KeptMaps {
+    /// The maps by their numbers.
     pub pages: Vec<MapPage>,
     // For each name the number that its map has, or had, among those of its terminal.
     numbers: Vec<u8>,

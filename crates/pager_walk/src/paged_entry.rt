@@ -45,8 +45,11 @@ pub enum Looked {
 /// the name of its page, where it has one, and the pages that are shared.
 #[derive(Drop)]
 pub struct MapTables {
+    /// Which home has the map of each fork.
     pub maps: KeptMaps,
+    /// By home, the name of its page, where it has one. The page of a map has none.
     pub names: Vec<Option<PageName>>,
+    /// The pages that have a share, with the counts of their names.
     pub shares: ShareTable,
 }
 

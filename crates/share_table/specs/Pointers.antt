@@ -16,9 +16,25 @@ bit_of false = 0
 abbrev pub access_bits : Access → ℕ
 access_bits a = bit_of a.r * 8 + bit_of a.w * 4 + bit_of a.x * 2 + bit_of a.c
 
--- the word with these numbers in bits 0 and 1, 2 to 5, 9 to 17, and 18 to 35; bits 6 to 8 are 0
+-- one of the kind, in bits 0 and 1 of a word
+abbrev pub one_kind : ℕ
+one_kind = 2 ^ 34
+
+-- one of the access, in bits 2 to 5
+abbrev pub one_access : ℕ
+one_access = 2 ^ 30
+
+-- how many accesses there are
+abbrev pub accesses : ℕ
+accesses = 2 ^ 4
+
+-- one of the page, in bits 9 to 17; the number is below it, in bits 18 to 35
+abbrev pub one_page : ℕ
+one_page = 2 ^ 18
+
+-- the word with this kind, access, page and number; bits 6 to 8 are 0
 abbrev pub fields : ℕ → ℕ → ℕ → ℕ → ℕ
-fields kind access page number = kind * 2 ^ 34 + access * 2 ^ 30 + page * 2 ^ 18 + number
+fields kind access page number = kind * one_kind + access * one_access + page * one_page + number
 
 -- the word of a pointer
 abbrev pub pointer_word : Pointer → ℕ

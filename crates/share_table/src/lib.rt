@@ -1,6 +1,6 @@
-//! The entries of maps as words, and the pages that more than one of them names.
+//! The entries of maps as words, and the pages that entries and files name more than once.
 //! To the layers above a pointer is its word and back, and shared pages are a finite map from shares to homes and counts.
-//! Stands on slab for the numbers of shares, on machine_names for homes and access, and on word36 for words.
+//! Stands on slab for the numbers of shares, on page_homes for homes, on machine_names for access, and on word36 for words.
 #![tactic(auto)]
 
 mod laws;

@@ -1,16 +1,16 @@
 // The entries of maps as words of their pages.
-ghost use Rattle.std.specs.Prelude.{◌≡◌, ◌<◌, ◌^◌, ◌↔◌, IsTrue, IfSome};
+ghost use Rattle.std.specs.Prelude.{◌≡◌, ◌<◌, ◌↔◌, IsTrue, IfSome};
 ghost use Rattle.share_table.specs.declared.pointer.Pointer.{Pointer as APointer};
-ghost use Rattle.share_table.specs.Pointers.{IsPointer, access_bits, fields, pointer_word};
+ghost use Rattle.share_table.specs.Pointers.{IsPointer, access_bits, fields, one_page, pointer_word};
 
 use crate::{MOST_SHARES, Share};
 use machine_names::{Access, LAST_SERIAL, SPACE_PAGES};
 use page_homes::{Home, MOST_HOMES};
 use word36::Word;
 
-/// An entry of a map: empty, a page at its home that has no other name, a page that is shared, or
-/// what the page of another fork's space is. The fork is named by its serial, 1 to 262,143, its
-/// page is 0 to 511, and homes and shares are below 16,384.
+/// An entry of a map: empty, a page by its home, one by its share, or what the page of another fork's
+/// space is. The fork is named by its serial, 1 to 262,143, its page is 0 to 511, and homes and shares
+/// are below 16,384.
 #[derive(Clone, Copy, PartialEq, Eq)]
 pub enum Pointer {
     Empty,
@@ -19,7 +19,19 @@ pub enum Pointer {
     Indirect(u32, u16, Access),
 }
 
-// What bits 0 and 1 say of the others.
+// One of the kind, in bits 0 and 1 of a word, as a number of the word's left half.
+const ONE_KIND: u32 = 0o200000;
+
+// One of the access, in bits 2 to 5, as a number of the left half.
+const ONE_ACCESS: u32 = 0o10000;
+
+// How many accesses there are.
+const ACCESSES: u32 = 0o20;
+
+// How many pages there are: the page is in bits 9 to 17, the last of the left half.
+const PAGES: u32 = 0o1000;
+
+// What the kind says of the other fields.
 const PRIVATE: u32 = 1;
 
 const SHARED: u32 = 2;
@@ -29,7 +41,7 @@ const INDIRECT: u32 = 3;
 // What is permitted, in four bits: R, W, X and C.
 fn bits_of(access: Access) -> u32
     ensures value { result ≡ access_bits access }
-    ensures below { result < 16 }
+    ensures below { result < ACCESSES }
 {
     u32::from(access.r) * 8
         + u32::from(access.w) * 4
@@ -39,7 +51,7 @@ fn bits_of(access: Access) -> u32
 
 // What four bits permit.
 fn access_of(bits: u32) -> Access
-    requires { bits < 16 }
+    requires { bits < ACCESSES }
     ensures { access_bits result ≡ bits }
 {
     Access {
@@ -53,11 +65,14 @@ fn access_of(bits: u32) -> Access
 // The word with these fields.
 fn word_of(kind: u32, access: Access, page: u32, number: u32) -> Word
     requires kind { kind < 4 }
-    requires page { page < 512 }
-    requires number { number < 2 ^ 18 }
+    requires page { page < PAGES }
+    requires number { number < one_page }
     ensures { result ≡ fields kind (access_bits access) page number }
 {
-    Word::join(kind * 0o200000 + bits_of(access) * 0o10000 + page, number)
+    Word::join(
+        kind * ONE_KIND + bits_of(access) * ONE_ACCESS + page,
+        number,
+    )
 }
 
 /// The word of an entry. The numbers of the entry fit it.
@@ -95,11 +110,11 @@ fn named_by(w: Word) -> Pointer
 {
     let left = w.left();
     let number = w.right();
-    let access = access_of(left / 0o10000 % 16);
-    match left / 0o200000 {
+    let access = access_of(left / ONE_ACCESS % ACCESSES);
+    match left / ONE_KIND {
         PRIVATE => Pointer::Private(Home(number), access),
         SHARED => Pointer::Shared(Share(number), access),
-        INDIRECT => Pointer::Indirect(number, (left % 512) as u16, access),
+        INDIRECT => Pointer::Indirect(number, (left % PAGES) as u16, access),
         _ => Pointer::Empty,
     }
 }
