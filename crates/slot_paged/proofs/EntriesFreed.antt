@@ -32,6 +32,7 @@ use Rattle.slot_paged.specs.PagedTables.{Beside, AreKept}
 use Rattle.slot_paged.specs.PagedTouches.{has_one_name}
 use Rattle.slot_paged.specs.SetEntries.{FreesPage, PutsPointer, page_freed}
 use Rattle.slot_paged.proofs.FreedPages.{freed_below, freed_share, freed_taken, page_there, within_shared}
+use Rattle.slot_paged.proofs.HomesKept.{word_keeps}
 use Rattle.slot_paged.proofs.LeftOnce.{look_entries}
 use Rattle.slot_paged.proofs.RenamedPages.{one_named}
 use Rattle.slot_paged.proofs.StillScenes.{away_put}
@@ -126,9 +127,7 @@ module _ {S : Type 0} (store : StoreMeaning S) (old new : S) (b b' : Beside) (ke
   -- an entry names no page any more, and its page had another name, or it named none
   pub left_frees : PutsPointer store old new b b' (left_of b (look_at b.tables (store.homes old) at)) b.shared at pointer → FreesEntry store old new b b' at
   left_frees z = record {
-    number = z.number;
-    numbered = z.numbered;
-    homes = λ k ne. inl (ap (λ ps. place ps k) z.homes ∙ get_or-set_other places root k put free ne, ap (λ (x : Beside). name_at x.tables.names k) z.beside);
+    keeps = word_keeps store old new b b' kept at z.number z.numbered (pointer_word pointer) z.homes (ap (λ (x : Beside). x.tables.names) z.beside);
     frames = λ none. z.used.framed.spare;
     away = λ i f. option_and_then (λ k. gone i (root_at (maps i) k).0) (index_of (maps i) f);
     others = others_named b b' places (store.homes new) at.fork z.number z.numbered maps fewer at.page (pointer_word pointer) (ap (λ ps. place ps root) z.homes ∙ get_or-set_same places root put free within);
@@ -155,16 +154,19 @@ module _ {S : Type 0} (store : StoreMeaning S) (old new : S) (b b' : Beside) (ke
   -- its page had no other name, and was given up
   pub freed_frees : (home : Home) (one : has_one_name b home.0 ≡ true) (a : Access) → look_at b.tables (store.homes old) at ≡ Is (Page home a) → FreesPage store old new b b' home at pointer → FreesEntry store old new b b' at
   freed_frees home one a looks z = record {
-    number = z.number;
-    numbered = z.numbered;
-    homes = λ k ne. elim (cases_eq k home.0) [
-      | inl own ↦ inr (ap (place (store.homes new)) own ∙ gone_there, ap (name_at b'.tables.names) own ∙ ap (λ (x : Beside). name_at x.tables.names home.0) z.beside ∙ get_or-set_same b.tables.names home.0 None None (freed_below b places kept home one), named k own)
-      | inr other ↦ inl (ap (λ ps. place ps k) homes_are ∙ get_or-set_other less root k put free ne ∙ get_or-set_other places home.0 k free free other, ap (λ (x : Beside). name_at x.tables.names k) z.beside ∙ get_or-set_other b.tables.names home.0 k None None other)
-    ];
+    keeps = record {
+      number = z.number;
+      numbered = z.numbered;
+      word = pointer_word pointer;
+      map = words_are;
+      homes = λ k ne. elim (cases_eq k home.0) [
+        | inl own ↦ inr (ap (place (store.homes new)) own ∙ gone_there, ap (name_at b'.tables.names) own ∙ ap (λ (x : Beside). name_at x.tables.names home.0) z.beside ∙ get_or-set_same b.tables.names home.0 None None (freed_below b places kept home one), named k own)
+        | inr other ↦ inl (ap (λ ps. place ps k) homes_are ∙ get_or-set_other less root k put free ne ∙ get_or-set_other places home.0 k free free other, ap (λ (x : Beside). name_at x.tables.names k) z.beside ∙ get_or-set_other b.tables.names home.0 k None None other)
+      ];
+    };
     frames = λ none. absurd (none home.0 (named home.0 refl));
     away = fun_ext away_same;
-    others = others_named b b' places (store.homes new) at.fork z.number z.numbered maps fewer at.page (pointer_word pointer)
-        (ap (λ ps. place ps root) homes_are ∙ get_or-set_same less root put free within ∙ ap (λ p. with_word_in p at.page (pointer_word pointer)) (roots z.number at.fork own_fork));
+    others = others_named b b' places (store.homes new) at.fork z.number z.numbered maps fewer at.page (pointer_word pointer) words_are;
   }
     where
       root : ℕ
@@ -190,6 +192,9 @@ module _ {S : Type 0} (store : StoreMeaning S) (old new : S) (b b' : Beside) (ke
 
       homes_are : store.homes new ≡ slice_set less root put
       homes_are = z.homes ∙ ap (λ ps. slice_set ps root (with_word_in (place ps root) at.page (pointer_word pointer))) z.freed.homes
+
+      words_are : place (store.homes new) root ≡ with_word_in (place places root) at.page (pointer_word pointer)
+      words_are = ap (λ ps. place ps root) homes_are ∙ get_or-set_same less root put free within ∙ ap (λ p. with_word_in p at.page (pointer_word pointer)) (roots z.number at.fork own_fork)
 
       maps : b'.tables.maps ≡ b.tables.maps
       maps = ap (λ (x : Beside). x.tables.maps) z.beside
@@ -223,16 +228,16 @@ module _ {S : Type 0} (store : StoreMeaning S) (old mid new : S) (b b1 b' : Besi
   frees_more = record {
     number = so_far.number;
     numbered = so_far.numbered;
-    homes = λ k ne. homes_more k (so_far.homes k ne) (frees.homes k (λ same. ne (same ∙ root)));
+    homes = λ k ne. homes_more k (so_far.homes k ne) (frees.keeps.homes k (λ same. ne (same ∙ root)));
     frames = λ none. frees.frames (λ k n. none k (has k n)) ∙ so_far.frames none;
     away = frees.away ∙ so_far.away;
     rest = λ j k l n. so_far.rest j k (omega (arith, l)) (frees.others j k (λ same. omega (arith, l, same)) n);
   }
     where
-      root : (root_at b1.tables.maps frees.number).0 ≡ (root_at b.tables.maps so_far.number).0
+      root : (root_at b1.tables.maps frees.keeps.number).0 ≡ (root_at b.tables.maps so_far.number).0
       root =
-          let z : Some frees.number ≡ Some so_far.number = sym frees.numbered ∙ ap (λ ms. index_of ms fork) maps ∙ so_far.numbered in
-          let same : frees.number ≡ so_far.number = cc z in
+          let z : Some frees.keeps.number ≡ Some so_far.number = sym frees.keeps.numbered ∙ ap (λ ms. index_of ms fork) maps ∙ so_far.numbered in
+          let same : frees.keeps.number ≡ so_far.number = cc z in
           λ i. (root_at (maps i) (same i)).0
 
       has : (k : ℕ) → NamesHome b1 (store.homes mid) (record { fork = fork; page = page }) k → MapHas b (store.homes old) fork k

@@ -9,7 +9,7 @@ use Rattle.machine_names.specs.Bounds.{IsOwner}
 use Rattle.machine_names.specs.Orders.{FilePage}
 use Rattle.machine_names.specs.PageWords.{zero_words}
 use Rattle.page_contracts.specs.Pages.{TakesFrames}
-use Rattle.page_contracts.specs.Stores.{HomePlace, Loses, StoreMeaning, away_at, away_home, free, here, is_here, place, traffic}
+use Rattle.page_contracts.specs.Stores.{HomePlace, Loses, StoreMeaning, away_at, away_home, free, here, is_here, is_taken, place, traffic}
 use Rattle.page_contracts.proofs.Losing.{loses_made, made_one}
 use Rattle.pager_walk.specs.PagedMaps.{name_at}
 use Rattle.flat_pages.specs.HeldMaps.{name_of}
@@ -25,7 +25,7 @@ use Rattle.slot_paged.specs.PagedTables.{Beside, AreKept}
 use Rattle.slot_paged.specs.PagedTouches.{scene_over}
 use Rattle.slot_paged.specs.PlacesSettled.{FilesOnePage, UsesBoth}
 use Rattle.slot_paged.proofs.PagesMade.{no_name}
-use Rattle.slot_paged.proofs.StillScenes.{away_made, still_scene}
+use Rattle.slot_paged.proofs.StillScenes.{away_made, made_other, made_takes, still_scene}
 
 module _ {S : Type 0} (store : StoreMeaning S) (old new : S) (b b' : Beside) (kept : AreKept b (store.homes old)) (kept' : AreKept b' (store.homes new)) (owner : Tty) (own : IsOwner owner) (f : FilePage ℕ) (z : FilesPage store old new b b' f owner) where
   abbrev places : List HomePlace
@@ -49,14 +49,20 @@ module _ {S : Type 0} (store : StoreMeaning S) (old new : S) (b b' : Beside) (ke
   pub filed_here : is_here (place (store.homes new) z.home.0) ≡ true
   filed_here = ap (λ ps. is_here (place ps z.home.0)) z.made.homes ∙ ap is_here (get_or-set_same places z.home.0 (here zero_words) free z.made.below)
 
-  name_other : (k : ℕ) → k ≢ z.home.0 → name_at b'.tables.names k ≡ name_at b.tables.names k
-  name_other k ne = ap (λ (x : Beside). name_at x.tables.names k) z.beside ∙ get_or-set_other b.tables.names z.home.0 k (Some title) None ne
+  pub filed_taken : (k : ℕ) → is_taken (place places k) ≡ true → is_taken (place (store.homes new) k) ≡ true
+  filed_taken k taken = ap (λ ps. is_taken (place ps k)) z.made.homes ∙ made_takes places z.home.0 zero_words k taken
+
+  pub filed_pages : (k : ℕ) → is_taken (place places k) ≡ true → place (store.homes new) k ≡ place places k
+  filed_pages k taken = ap (λ ps. place ps k) z.made.homes ∙ made_other places z.home.0 zero_words k z.made.was_free taken
+
+  pub filed_names : (k : ℕ) → k ≢ z.home.0 → name_at b'.tables.names k ≡ name_at b.tables.names k
+  filed_names k ne = ap (λ (x : Beside). name_at x.tables.names k) z.beside ∙ get_or-set_other b.tables.names z.home.0 k (Some title) None ne
 
   pub filed_at : fin.get b'.files f ≡ Some z.home
   filed_at = ap (λ (x : Beside). fin.get x.files f) z.beside ∙ with_here b.files f (Some z.home)
 
   pub filed_scene : TakesFrames (scene_over b places (store.spare old)) (scene_over b' (store.homes new) (store.spare new)) 1
-  filed_scene = still_scene b b' places (store.homes new) (ap (λ (x : Beside). x.tables.maps) z.beside) away_same z.home.0 kept.named.once kept'.named.once name_other home_near (store.spare old) (store.spare new) 1 z.made.spare
+  filed_scene = still_scene b b' places (store.homes new) (ap (λ (x : Beside). x.tables.maps) z.beside) away_same z.home.0 kept.named.once kept'.named.once filed_names home_near (store.spare old) (store.spare new) 1 z.made.spare
 
   pub filed_count : b'.taken + b'.living ≡ b.taken + b.living + 1
   filed_count = (let t = ap (λ (x : Beside). x.taken) z.beside in let l = ap (λ (x : Beside). x.living) z.beside in omega (arith, t, l))
@@ -74,7 +80,7 @@ module _ {S : Type 0} (store : StoreMeaning S) (old new : S) (b b' : Beside) (ke
       omega (arith, few, kept.files.count z.home.0)
 
   still : files_held b'.tables.names b.files ≡ files_held b.tables.names b.files
-  still = files_still b.tables.names b'.tables.names b.files z.home.0 unfiled name_other
+  still = files_still b.tables.names b'.tables.names b.files z.home.0 unfiled filed_names
 
   pub filed_one : FilesOnePage b b' f true
   filed_one = record {

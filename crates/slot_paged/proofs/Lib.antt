@@ -58,6 +58,8 @@ pub mod PutDone
 pub mod EmptiedForks
 pub mod ForksEnded
 pub mod ForksLeft
+pub mod HomesKept
 pub mod EntriesFreed
 pub mod ForksAdded
 pub mod HousedPages
+pub mod CountLaws

@@ -10,7 +10,7 @@ use Rattle.machine_names.specs.declared.names.Slot.{Slot}
 use Rattle.machine_names.specs.declared.names.Tty.{Tty}
 use Rattle.machine_names.specs.Bounds.{IsOwner}
 use Rattle.page_contracts.specs.Pages.{TakesFrames}
-use Rattle.page_contracts.specs.Stores.{HomePlace, Loses, StoreMeaning, away_at, away_home, free, here, is_here, place, traffic, with_word_in}
+use Rattle.page_contracts.specs.Stores.{HomePlace, Loses, StoreMeaning, away_at, away_home, free, here, is_here, is_taken, place, traffic, with_word_in}
 use Rattle.page_contracts.proofs.Losing.{loses_made, loses_on, loses_used}
 use Rattle.share_table.specs.declared.pointer.Pointer.TheVariants.{Private}
 use Rattle.share_table.specs.Pointers.{pointer_word}
@@ -20,7 +20,7 @@ use Rattle.pager_walk.specs.MapPages.{fork_at, root_at}
 use Rattle.pager_walk.specs.PagedMaps.{Tables, entry_in, name_at, with_name}
 use Rattle.pager_walk.specs.Walks.{IsNearSlot}
 use Rattle.pager_walk.proofs.Changing.{entry_back}
-use Rattle.pager_walk.proofs.Looking.{ArePages}
+use Rattle.pager_walk.proofs.Looking.{ArePages, root_taken, taken_within}
 use Rattle.pager_walk.proofs.NumberedMaps.{index_fork}
 use Rattle.flat_pages.specs.Serials.{serial_of}
 use Rattle.flat_pages.specs.SlotTables.{files_held, filed_total, share_of}
@@ -33,13 +33,13 @@ use Rattle.slot_paged.specs.PagedMeaning.{forks_in, lives_in}
 use Rattle.slot_paged.specs.PagedTables.{Beside, AreKept}
 use Rattle.slot_paged.specs.PagedTouches.{roomy, scene_over}
 use Rattle.slot_paged.specs.PagedSlots.{filed_over}
-use Rattle.slot_paged.specs.PlacesSettled.{UsesBoth}
+use Rattle.slot_paged.specs.PlacesSettled.{SetsOneWord, UsesBoth}
 use Rattle.slot_paged.proofs.EntryLooks.{SetsOne, sets_one}
 use Rattle.slot_paged.proofs.EntryPut.{put_places}
 use Rattle.slot_paged.proofs.NewForks.{free_apart}
 use Rattle.slot_paged.proofs.PagesMade.{no_name}
 use Rattle.slot_paged.proofs.Places.{IsNoRoot}
-use Rattle.slot_paged.proofs.StillScenes.{away_made, away_put, room_less, still_scene}
+use Rattle.slot_paged.proofs.StillScenes.{away_made, away_put, made_other, made_takes, put_taken, room_less, still_scene}
 use Rattle.slot_paged.proofs.UsedPlaces.{made_both, uses_both}
 
 module _ {S : Type 0} (store : StoreMeaning S) (old new : S) (b b' : Beside) (kept : AreKept b (store.homes old)) (kept' : AreKept b' (store.homes new)) (pages : ArePages (store.homes old)) (owner : Tty) (own : IsOwner owner)
@@ -107,12 +107,32 @@ module _ {S : Type 0} (store : StoreMeaning S) (old new : S) (b b' : Beside) (ke
       ∙ ap is_here (get_or-set_other mid root z.home.0 (with_word_in (place mid root) at.page word) free (λ same. apart z.number at.fork (index_fork b.tables.maps at.fork z.number z.numbered) (sym same)))
       ∙ ap is_here (get_or-set_same places z.home.0 (here words) free z.made.below)
 
-  name_other : (k : ℕ) → k ≢ z.home.0 → name_at b'.tables.names k ≡ name_at b.tables.names k
-  name_other k ne = ap (λ (x : Tables). name_at x.names k) tables_are ∙ get_or-set_other b.tables.names z.home.0 k (Some title) None ne
+  pub made_taken : (k : ℕ) → is_taken (place places k) ≡ true → is_taken (place (store.homes new) k) ≡ true
+  made_taken k taken = ap (λ ps. is_taken (place ps k)) homes_are ∙ put_taken mid root at.page word k ∙ made_takes places z.home.0 words k taken
+
+  own_fork : fork_at b.tables.maps z.number ≡ Some at.fork
+  own_fork = index_fork b.tables.maps at.fork z.number z.numbered
+
+  -- what was taken has the page that it had, but for the word of the entry
+  pub made_pages : SetsOneWord b places (store.homes new)
+  made_pages = record {
+    fork = at.fork;
+    number = z.number;
+    numbered = z.numbered;
+    page = at.page;
+    word = word;
+    map = ap (λ ps. place ps root) homes_are
+        ∙ get_or-set_same mid root (with_word_in (place mid root) at.page word) free (taken_within mid root (ap is_taken (roots z.number at.fork own_fork) ∙ root_taken b.tables places kept.rooted at.fork z.number z.numbered))
+        ∙ ap (λ p. with_word_in p at.page word) (roots z.number at.fork own_fork);
+    homes = λ k ne taken. ap (λ ps. place ps k) homes_are ∙ get_or-set_other mid root k (with_word_in (place mid root) at.page word) free ne ∙ made_other places z.home.0 words k z.made.was_free taken;
+  }
+
+  pub made_names : (k : ℕ) → k ≢ z.home.0 → name_at b'.tables.names k ≡ name_at b.tables.names k
+  made_names k ne = ap (λ (x : Tables). name_at x.names k) tables_are ∙ get_or-set_other b.tables.names z.home.0 k (Some title) None ne
 
   pub made_scene : TakesFrames (scene_over b places (store.spare old)) (scene_over b' (store.homes new) (store.spare new)) 1
   made_scene =
-      still_scene b b' places (store.homes new) (ap (λ (x : Beside). x.tables.maps) z.beside) away_same z.home.0 kept.named.once kept'.named.once name_other home_near
+      still_scene b b' places (store.homes new) (ap (λ (x : Beside). x.tables.maps) z.beside) away_same z.home.0 kept.named.once kept'.named.once made_names home_near
       (store.spare old) (store.spare new) 1 (ap (λ n. n + 1) z.used.framed.spare ∙ z.made.spare)
 
   pub made_count : b'.taken + b'.living ≡ b.taken + b.living + 1
@@ -136,7 +156,7 @@ module _ {S : Type 0} (store : StoreMeaning S) (old new : S) (b b' : Beside) (ke
   pub made_files : filed_over b' ≡ filed_over b
   made_files =
       let files = ap (λ (x : Beside). x.files) z.beside in
-      (λ i. fin.get (files_held b'.tables.names (files i))) ∙ ap fin.get (files_still b.tables.names b'.tables.names b.files z.home.0 unfiled name_other)
+      (λ i. fin.get (files_held b'.tables.names (files i))) ∙ ap fin.get (files_still b.tables.names b'.tables.names b.files z.home.0 unfiled made_names)
 
   pub made_lives : lives_in b' ≡ lives_in b
   made_lives = ap lives_in z.beside

@@ -3,7 +3,7 @@ use Rattle.std.proofs.Common.{◌≡◌, ◌≢◌, ℕ, ◌+◌, ◌≤◌, Lis
 use Rattle.std.specs.Prelude.{◌&&◌, ◌==◌}
 use Rattle.std.specs.FinMap as fin
 use Rattle.std.proofs.lemmas.Bool.Decides.{nat_tests}
-use Rattle.std.proofs.lemmas.List.{get_or-set_other}
+use Rattle.std.proofs.lemmas.List.{get_or-set_same, get_or-set_other}
 use Rattle.machine_names.specs.declared.names.Access.{Access}
 use Rattle.machine_names.specs.declared.names.PageName.{PageName}
 use Rattle.machine_names.specs.declared.names.Slot.{Slot}
@@ -11,7 +11,7 @@ use Rattle.machine_names.specs.declared.names.Tty.{Tty}
 use Rattle.machine_names.specs.Bounds.{IsOwner}
 use Rattle.page_homes.specs.declared.homes.Home.{Home}
 use Rattle.page_contracts.specs.Pages.{TakesFrames}
-use Rattle.page_contracts.specs.Stores.{HomePlace, Loses, StoreMeaning, away_at, away_home, free, here, is_here, place, traffic, with_word_in}
+use Rattle.page_contracts.specs.Stores.{HomePlace, Loses, StoreMeaning, away_at, away_home, free, here, is_here, is_taken, place, traffic, with_word_in}
 use Rattle.page_contracts.proofs.Losing.{loses_on, loses_used}
 use Rattle.share_table.specs.Pointers.{pointer_word}
 use Rattle.pager_walk.specs.declared.paged_entry.PagedEntry.TheVariants.{Page}
@@ -19,7 +19,7 @@ use Rattle.pager_walk.specs.MapPages.{fork_at, root_at}
 use Rattle.pager_walk.specs.PagedMaps.{Tables, entry_in, name_at}
 use Rattle.pager_walk.specs.Walks.{IsNearSlot}
 use Rattle.pager_walk.proofs.Changing.{entry_back}
-use Rattle.pager_walk.proofs.Looking.{ArePages}
+use Rattle.pager_walk.proofs.Looking.{ArePages, root_taken, taken_within}
 use Rattle.pager_walk.proofs.NumberedMaps.{index_fork}
 use Rattle.flat_pages.specs.Serials.{serial_of}
 use Rattle.flat_pages.specs.SlotTables.{files_held, filed_total, share_of}
@@ -31,11 +31,11 @@ use Rattle.slot_paged.specs.PagedMeaning.{forks_in, lives_in}
 use Rattle.slot_paged.specs.PagedTables.{Beside, AreKept}
 use Rattle.slot_paged.specs.PagedTouches.{has_one_name, names_at, scene_over}
 use Rattle.slot_paged.specs.PagedSlots.{filed_over}
-use Rattle.slot_paged.specs.PlacesSettled.{UsesBoth}
+use Rattle.slot_paged.specs.PlacesSettled.{SetsOneWord, UsesBoth}
 use Rattle.slot_paged.proofs.EntryLooks.{SetsOne, sets_one}
 use Rattle.slot_paged.proofs.EntryPut.{put_places}
 use Rattle.slot_paged.proofs.RenamedPages.{names', one_named, pointer_fits, pointer_names, some_still, tables'}
-use Rattle.slot_paged.proofs.StillScenes.{away_put, still_scene}
+use Rattle.slot_paged.proofs.StillScenes.{away_put, put_taken, still_scene}
 use Rattle.slot_paged.proofs.Touched.{named_apart}
 use Rattle.slot_paged.proofs.UsedPlaces.{used_both, uses_both}
 
@@ -103,12 +103,27 @@ module _ {S : Type 0} (store : StoreMeaning S) (old new : S) (b b' : Beside) (ke
   pub renamed_here : is_here (place (store.homes new) h.0) ≡ true
   renamed_here = ap (λ ps. is_here (place ps h.0)) z.homes ∙ ap is_here (get_or-set_other places root h.0 (with_word_in (place places root) at.page word) free (λ same. apart (sym same))) ∙ ap is_here old_words
 
-  name_other : (k : ℕ) → k ≢ h.0 → name_at b'.tables.names k ≡ name_at b.tables.names k
-  name_other k ne = ap (λ (x : Tables). name_at x.names k) tables_are ∙ get_or-set_other b.tables.names h.0 k (Some title) None ne
+  pub renamed_taken : (k : ℕ) → is_taken (place places k) ≡ true → is_taken (place (store.homes new) k) ≡ true
+  renamed_taken k taken = ap (λ ps. is_taken (place ps k)) z.homes ∙ put_taken places root at.page word k ∙ taken
+
+  -- what was taken has the page that it had, but for the word of the entry
+  pub renamed_pages : SetsOneWord b places (store.homes new)
+  renamed_pages = record {
+    fork = at.fork;
+    number = z.number;
+    numbered = z.numbered;
+    page = at.page;
+    word = word;
+    map = ap (λ ps. place ps root) z.homes ∙ get_or-set_same places root (with_word_in (place places root) at.page word) free (taken_within places root (root_taken b.tables places kept.rooted at.fork z.number z.numbered));
+    homes = λ k ne taken. ap (λ ps. place ps k) z.homes ∙ get_or-set_other places root k (with_word_in (place places root) at.page word) free ne;
+  }
+
+  pub renamed_names : (k : ℕ) → k ≢ h.0 → name_at b'.tables.names k ≡ name_at b.tables.names k
+  renamed_names k ne = ap (λ (x : Tables). name_at x.names k) tables_are ∙ get_or-set_other b.tables.names h.0 k (Some title) None ne
 
   pub renamed_scene : TakesFrames (scene_over b places (store.spare old)) (scene_over b' (store.homes new) (store.spare new)) 0
   renamed_scene =
-      still_scene b b' places (store.homes new) (ap (λ (x : Beside). x.tables.maps) z.beside) away_same h.0 kept.named.once kept'.named.once name_other home_near (store.spare old) (store.spare new) 0
+      still_scene b b' places (store.homes new) (ap (λ (x : Beside). x.tables.maps) z.beside) away_same h.0 kept.named.once kept'.named.once renamed_names home_near (store.spare old) (store.spare new) 0
       (let two = z.used.framed.spare ∙ z.page_used.framed.spare in omega (arith, two))
 
   pub renamed_count : b'.taken + b'.living ≡ b.taken + b.living
@@ -124,7 +139,7 @@ module _ {S : Type 0} (store : StoreMeaning S) (old new : S) (b b' : Beside) (ke
   renamed_files =
       let files = ap (λ (x : Beside). x.files) z.beside in
       let none : filed_total h.0 b.files ≡ 0 = omega (arith, one_unfiled b h.0 one, kept.files.count h.0) in
-      (λ i. fin.get (files_held b'.tables.names (files i))) ∙ ap fin.get (files_still b.tables.names b'.tables.names b.files h.0 none name_other)
+      (λ i. fin.get (files_held b'.tables.names (files i))) ∙ ap fin.get (files_still b.tables.names b'.tables.names b.files h.0 none renamed_names)
 
   pub renamed_lives : lives_in b' ≡ lives_in b
   renamed_lives = ap lives_in z.beside

@@ -1,6 +1,6 @@
 -- What is in frames stays so where a page is made or renamed, whatever the drum.
-use Rattle.std.proofs.Common.{◌≡◌, ◌≢◌, inl, inr, ℕ, ◌+◌, ◌<◌, List, true, Option, None, Some, length, refl, sym, ◌∙◌, ap, arith}
-use Rattle.std.specs.Prelude.{slice_set}
+use Rattle.std.proofs.Common.{◌≡◌, ◌≢◌, inl, inr, ℕ, ◌+◌, ◌<◌, List, true, false, Option, None, Some, length, refl, sym, ◌∙◌, ap, arith}
+use Rattle.std.specs.Prelude.{slice_index_or, slice_set}
 use Rattle.std.specs.Option.{option_and_then}
 use Rattle.std.proofs.Math.Path.{fun_ext}
 use Rattle.std.proofs.lemmas.Bool.{cases_eq, cases_lt}
@@ -8,14 +8,17 @@ use Rattle.std.proofs.lemmas.Bool.Decides.{nat_tests}
 use Rattle.std.proofs.lemmas.List.{get_or-set_same, get_or-set_other, get_or_past, length-set}
 use Rattle.machine_names.specs.declared.names.PageName.{PageName}
 use Rattle.page_contracts.specs.Pages.{TakesFrames}
-use Rattle.page_contracts.specs.Stores.{HomePlace, free, away, here, away_at, away_home, place, with_word_in}
+use Rattle.page_contracts.specs.Stores.{HomePlace, free, away, here, away_at, away_home, is_taken, place, with_word_in}
 use Rattle.flat_pages.specs.SlotTouches.{home_named}
 use Rattle.flat_pages.proofs.Telling.{named_home}
 use Rattle.flat_pages.proofs.Touching.{home_is}
 use Rattle.pager_walk.specs.MapPages.{index_of, root_at}
 use Rattle.pager_walk.specs.PagedMaps.{map_away, name_at}
+use Rattle.pager_walk.proofs.Changing.{taken_still}
+use Rattle.pager_walk.proofs.Looking.{taken_map, taken_within}
 use Rattle.slot_paged.specs.PagedTables.{Beside}
 use Rattle.slot_paged.specs.PagedTouches.{roomy, scene_over}
+use Rattle.slot_paged.proofs.PagesMade.{taken_word}
 
 away_word : (p : HomePlace) (offset word home : ℕ) → away_home (with_word_in p offset word) home ≡ away_home p home
 away_word free offset word home = refl
@@ -38,6 +41,24 @@ pub away_made : (places : List HomePlace) (home : ℕ) (words : List ℕ) (k : �
 away_made places home words k below was = elim (cases_eq k home) [
   | inl same ↦ ap (away_at (slice_set places home (here words))) same ∙ ap (λ p. away_home p home) (get_or-set_same places home (here words) free below) ∙ sym (ap (away_at places) same ∙ ap (λ p. away_home p home) was)
   | inr other ↦ ap (λ p. away_home p k) (get_or-set_other places home k (here words) free other)
+]
+
+-- a word that is put takes and frees no home
+pub put_taken : (places : List HomePlace) (root offset word k : ℕ) → is_taken (place (slice_set places root (with_word_in (place places root) offset word)) k) ≡ is_taken (place places k)
+put_taken places root offset word k =
+    let put : HomePlace = with_word_in (place places root) offset word in
+    sym (taken_map (slice_set places root put) k) ∙ ap (λ bs. slice_index_or bs k false) (taken_still places root put (taken_word (place places root) offset word)) ∙ taken_map places k
+
+-- a page that is made leaves each home that was taken as it was
+pub made_other : (places : List HomePlace) (home : ℕ) (words : List ℕ) (k : ℕ) → place places home ≡ free → is_taken (place places k) ≡ true → place (slice_set places home (here words)) k ≡ place places k
+made_other places home words k was taken =
+    get_or-set_other places home k (here words) free (λ same. let no : false ≡ true = sym (ap (λ j. is_taken (place places j)) same ∙ ap is_taken was) ∙ taken in absurd (cc no))
+
+-- a page that is made frees no home
+pub made_takes : (places : List HomePlace) (home : ℕ) (words : List ℕ) (k : ℕ) → is_taken (place places k) ≡ true → is_taken (place (slice_set places home (here words)) k) ≡ true
+made_takes places home words k taken = elim (cases_eq k home) [
+  | inl same ↦ ap (λ j. is_taken (place (slice_set places home (here words)) j)) same ∙ ap is_taken (get_or-set_same places home (here words) free (taken_within places home (ap (λ j. is_taken (place places j)) (sym same) ∙ taken)))
+  | inr other ↦ ap is_taken (get_or-set_other places home k (here words) free other) ∙ taken
 ]
 
 abbrev pub Once : List (Option PageName) → Type 0

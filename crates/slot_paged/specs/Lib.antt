@@ -16,3 +16,4 @@ pub mod SetEntries
 pub mod EndedForks
 pub mod AddedForks
 pub mod FreedEntries
+pub mod ExactCounts

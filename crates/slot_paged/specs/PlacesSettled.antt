@@ -1,5 +1,5 @@
 -- What a page of a place that is settled leaves.
-use Rattle.std.specs.Prelude.{◌≡◌, ◌≢◌, ℕ, ◌+◌, ◌≤◌, Bool, true, MatchOption, Option, is_some}
+use Rattle.std.specs.Prelude.{◌≡◌, ◌≢◌, ◌⊎◌, ℕ, ◌+◌, ◌≤◌, List, Bool, true, MatchOption, Option, Some, is_some}
 use Rattle.std.specs.Option.{option_and_then}
 use Rattle.machine_names.specs.declared.names.ForkName.{ForkName}
 use Rattle.machine_names.specs.declared.names.Kind.{Kind}
@@ -12,9 +12,11 @@ use Rattle.page_contracts.specs.declared.answers.Touch.{Touch}
 use Rattle.page_contracts.specs.declared.answers.Touch.TheVariants.{Ready, Zero}
 use Rattle.page_contracts.specs.DrumWords.{DrumWords}
 use Rattle.page_contracts.specs.Pages.{SettlesTo, TakesFrames, frames_taken, map_set, spot_of}
-use Rattle.page_contracts.specs.Stores.{IsUsed, Loses, RenewsBoth, RenewsOne, StoreMeaning, is_here, place, traffic}
+use Rattle.page_contracts.specs.Stores.{HomePlace, IsUsed, Loses, RenewsBoth, RenewsOne, StoreMeaning, is_here, is_taken, place, traffic, with_word_in}
 use Rattle.plain_pages.specs.References.{next_making, settled}
 use Rattle.flat_pages.specs.Serials.{serial_of}
+use Rattle.pager_walk.specs.MapPages.{index_of, root_at}
+use Rattle.pager_walk.specs.PagedMaps.{name_at}
 use Rattle.slot_paged.specs.declared.page_home.PageHome.TheVariants.{At}
 use Rattle.slot_paged.specs.PageHomes.{homed_over}
 use Rattle.slot_paged.specs.PagedMeaning.{forks_in, lives_in}
@@ -45,6 +47,20 @@ pub record UsesPlace {S : Type 0} (store : StoreMeaning S) (old new : S) (b b' :
   pub set : (d : DrumWords) → FitsPages b (store.homes old) d → fork ≡ map_set (next_making (plain_over b (store.homes old) d) (spot_of at) kind)
   pub ages : UsesBoth store old new b' home.0 fork
 
+-- Each home that was taken has the page that it had, but that of one fork's map, of whose page one word alone may be another.
+pub record SetsOneWord (b : Beside) (places places' : List HomePlace) : Type 0 where
+  pub fork : ForkName
+  pub number : ℕ
+  pub numbered : index_of b.tables.maps fork ≡ Some number
+  pub page : ℕ
+  pub word : ℕ
+  pub map : place places' (root_at b.tables.maps number).0 ≡ with_word_in (place places (root_at b.tables.maps number).0) page word
+  pub homes : (k : ℕ) → k ≢ (root_at b.tables.maps number).0 → is_taken (place places k) ≡ true → place places' k ≡ place places k
+
+-- each home that was taken has the page that it had, but for one word of one map at most
+abbrev pub KeepsPages : Beside → List HomePlace → List HomePlace → Type 0
+KeepsPages b places places' = ((k : ℕ) → is_taken (place places k) ≡ true → place places' k ≡ place places k) ⊎ SetsOneWord b places places'
+
 -- the zero page or the copy was made that a touch announces, for an owner, or the page was used that it finds ready
 pub record SettlesPlace {S : Type 0} (store : StoreMeaning S) (old new : S) (b b' : Beside) (at : Place) (kind : Kind) (owner : Tty) : Type 0 where
   pub told : (d : DrumWords) → FitsPages b (store.homes old) d → FitsPages b' (store.homes new) d × (plain_over b' (store.homes new) d ≡ settled (plain_over b (store.homes old) d) (spot_of at) kind owner)
@@ -61,3 +77,6 @@ pub record SettlesPlace {S : Type 0} (store : StoreMeaning S) (old new : S) (b b
   pub serial : serial_of b'.serials owner ≤ serial_of b.serials owner + 1
   pub serials : (t : Tty) → t ≢ owner → serial_of b'.serials t ≡ serial_of b.serials t
   pub most : b'.limit ≡ b.limit
+  pub taken : (k : ℕ) → is_taken (place (store.homes old) k) ≡ true → is_taken (place (store.homes new) k) ≡ true
+  pub pages : KeepsPages b (store.homes old) (store.homes new)
+  pub names : (h : Home) → homed_over b' (store.homes new) at ≡ At h → (k : ℕ) → k ≢ h.0 → name_at b'.tables.names k ≡ name_at b.tables.names k

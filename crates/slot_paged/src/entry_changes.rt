@@ -20,7 +20,7 @@ impl<S: Store> SlotPaged<S> {
     ghost use Rattle.pager_walk.specs.declared.paged_entry.PagedEntry.{PagedEntry as APagedEntry};
     ghost use Rattle.pager_walk.specs.PagedMaps.{entry_for, is_near, look_at, name_at};
     ghost use Rattle.flat_pages.specs.FileSteps.{HasHome};
-    ghost use Rattle.slot_paged.specs.FreedEntries.{FreesEntry};
+    ghost use Rattle.slot_paged.specs.FreedEntries.{FreesEntry, KeepsHomes};
     ghost use Rattle.slot_paged.specs.LeftShares.{left_of};
     ghost use Rattle.slot_paged.specs.PagedTables.{beside_of};
     ghost use Rattle.slot_paged.specs.PagedTouches.{has_one_name};
@@ -98,7 +98,8 @@ impl<S: Store> SlotPaged<S> {
         requires near { is_near (look_at (beside_of self.old.tables).tables (S.means.homes self.old.store) at) ≡ true }
         requires seen { FindsEntry (look_at (beside_of self.old.tables).tables (S.means.homes self.old.store) at) }
         requires filed { HasHome self.old.tables.files home }
-        ensures { SetsSlot S.means self.old.store self.new.store (beside_of self.old.tables) (beside_of self.new.tables) at (paged.Page home access) }
+        ensures sets { SetsSlot S.means self.old.store self.new.store (beside_of self.old.tables) (beside_of self.new.tables) at (paged.Page home access) }
+        ensures keeps { KeepsHomes S.means self.old.store self.new.store (beside_of self.old.tables) (beside_of self.new.tables) at }
     {
         self.set_unnamed(at, Pointer::Empty);
         self.put_joined(at, home, access);
@@ -139,6 +140,7 @@ impl<S: Store> SlotPaged<S> {
     ghost use Rattle.page_contracts.specs.Stores.{Loses, traffic};
     ghost use Rattle.plain_pages.specs.NewEntries.{IsNewEntry, changed};
     ghost use Rattle.pager_walk.specs.PagedMaps.{look_at, seen_for};
+    ghost use Rattle.slot_paged.specs.FreedEntries.{KeepsHomes};
     ghost use Rattle.slot_paged.specs.PagedMeaning.{forks_in, lives_in};
     ghost use Rattle.slot_paged.specs.PagedTables.{FitsPages, beside_of, plain_over};
     ghost use Rattle.slot_paged.specs.PagedTouches.{scene_over};
@@ -151,7 +153,8 @@ impl<S: Store> SlotPaged<S> {
         requires seen { look_at (beside_of self.old.tables).tables (S.means.homes self.old.store) slot ≡ looked.Is seen }
         requires new { IsNewEntry (filed_over (beside_of self.old.tables)) new }
         requires follows { (serial page : ℕ) (a : AnAccess) → new ≡ NewEntry.Follows serial page a → (1 ≤ serial) × (serial ≤ LAST_SERIAL) }
-        ensures { ChangesEntry S.means self.old.store self.new.store (beside_of self.old.tables) (beside_of self.new.tables) slot new }
+        ensures changes { ChangesEntry S.means self.old.store self.new.store (beside_of self.old.tables) (beside_of self.new.tables) slot new }
+        ensures keeps { KeepsHomes S.means self.old.store self.new.store (beside_of self.old.tables) (beside_of self.new.tables) slot }
     {
         match new {
             NewEntry::Empty => self.set_unnamed(slot, Pointer::Empty),
@@ -185,6 +188,7 @@ impl<S: Store> SlotPaged<S> {
         ensures filed { filed_over (beside_of self.new.tables) ≡ filed_over (beside_of self.old.tables) }
         ensures loses { Loses (traffic S.means self.old.store) (traffic S.means self.new.store) }
         ensures uses { UsesMapOf S.means self.old.store self.new.store (beside_of self.new.tables) slot.fork }
+        ensures homes { KeepsHomes S.means self.old.store self.new.store (beside_of self.old.tables) (beside_of self.new.tables) slot }
         ensures lives { lives_in (beside_of self.new.tables) ≡ lives_in (beside_of self.old.tables) }
         ensures forks { forks_in (beside_of self.new.tables) ≡ forks_in (beside_of self.old.tables) }
         ensures serials { self.new.tables.serials ≡ self.old.tables.serials }

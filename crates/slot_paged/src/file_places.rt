@@ -126,7 +126,7 @@ impl<S: Store> SlotPaged<S> {
 }
 
 impl<S: Store> SlotPaged<S> {
-    ghost use Rattle.std.specs.Prelude.{◌≡◌, ◌<◌, is_some, IfSome};
+    ghost use Rattle.std.specs.Prelude.{◌≡◌, ◌<◌, ℕ, is_some, IfSome};
     ghost use Rattle.machine_names.specs.declared.names.TheConstants.{MOST_FILES};
     ghost use Rattle.machine_names.specs.declared.names.Kind.TheVariants.{Read};
     ghost use Rattle.machine_names.specs.Bounds.{IsFilePage};
@@ -135,6 +135,8 @@ impl<S: Store> SlotPaged<S> {
     ghost use Rattle.page_contracts.specs.DrumWords.{DrumWords};
     ghost use Rattle.page_contracts.specs.Pages.{DropsFile, FilesOne, IsPlace, MayLose, StaysInCore, UsesNone};
     ghost use Rattle.plain_pages.specs.FilePages.{filed_by, without_file};
+    ghost use Rattle.flat_pages.specs.FileSteps.{IsFiled};
+    ghost use Rattle.slot_paged.specs.FiledSteps.{PageStays};
     ghost use Rattle.slot_paged.specs.PagedSlots.{paged_slots};
     ghost use Rattle.slot_paged.specs.PagedTables.{beside_of};
 
@@ -147,6 +149,7 @@ impl<S: Store> SlotPaged<S> {
         ensures told { (d : DrumWords) → (paged_slots S.means (λ p. p.store) (λ p. beside_of p.tables)).fits self.old d → (paged_slots S.means (λ p. p.store) (λ p. beside_of p.tables)).fits self.new d × ((paged_slots S.means (λ p. p.store) (λ p. beside_of p.tables)).plain self.new d ≡ filed_by ((paged_slots S.means (λ p. p.store) (λ p. beside_of p.tables)).plain self.old d) (file_page file.0 page) from) }
         ensures scene { StaysInCore ((paged_slots S.means (λ p. p.store) (λ p. beside_of p.tables)).scene self.old) ((paged_slots S.means (λ p. p.store) (λ p. beside_of p.tables)).scene self.new) 0 }
         ensures filed { FilesOne (paged_slots S.means (λ p. p.store) (λ p. beside_of p.tables)) (file_page file.0 page) (is_some from) self.old self.new }
+        ensures homes { (k : ℕ) → PageStays (beside_of self.old.tables) (S.means.homes self.old.store) (beside_of self.new.tables) (S.means.homes self.new.store) k (IsFiled self.old.tables.files (file_page file.0 page) k) }
         ensures loses { MayLose (paged_slots S.means (λ p. p.store) (λ p. beside_of p.tables)) self.old self.new }
         ensures uses { UsesNone (paged_slots S.means (λ p. p.store) (λ p. beside_of p.tables)) self.old self.new }
         ensures lives { (paged_slots S.means (λ p. p.store) (λ p. beside_of p.tables)).lives self.new ≡ (paged_slots S.means (λ p. p.store) (λ p. beside_of p.tables)).lives self.old }

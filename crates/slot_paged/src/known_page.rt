@@ -10,9 +10,13 @@ use pager_walk::{Walked, Way};
 /// executed as it is, with no copy.
 #[derive(Clone, Copy, PartialEq, Eq)]
 pub struct KnownPage {
+    /// The home of the page.
     pub home: Home,
+    /// Whether it may be read.
     pub reads: bool,
+    /// Whether it may be written, and no entry of the chain has the copy mark.
     pub writes: bool,
+    /// Whether it may be executed.
     pub executes: bool,
 }
 

@@ -8,6 +8,7 @@ mod file_places;
 mod file_tables;
 mod fork_ends;
 mod known_page;
+mod laws;
 mod looked_up;
 mod page_home;
 mod paged_tables;
@@ -15,6 +16,7 @@ mod settling;
 mod slot_paged;
 
 pub use known_page::KnownPage;
+pub use laws::{counts_are_exact, references_without_a_chain_are_denied};
 pub use page_home::PageHome;
 pub use paged_tables::PagedTables;
 pub use slot_paged::SlotPaged;

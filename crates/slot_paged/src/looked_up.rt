@@ -95,13 +95,13 @@ impl<S: Store> SlotPaged<S> {
 }
 
 impl<S: Store> SlotPaged<S> {
-    ghost use Rattle.std.specs.Prelude.{◌≡◌, ◌/◌, ◌%◌, ℕ, Some};
+    ghost use Rattle.std.specs.Prelude.{◌≡◌, ◌/◌, ◌%◌, ℕ, Some, slice_set};
     ghost use Rattle.machine_names.specs.declared.names.ForkName.{ForkName as AForkName};
     ghost use Rattle.machine_names.specs.Bounds.{IsAddress};
     ghost use Rattle.outside.specs.declared.TheConstants.{PAGE_WORDS};
     ghost use Rattle.page_contracts.specs.DrumWords.{DrumWords};
     ghost use Rattle.page_contracts.specs.Pages.{HasSpace, MayLose, OnlyUses, StaysPut};
-    ghost use Rattle.page_contracts.specs.Stores.{IsUsed};
+    ghost use Rattle.page_contracts.specs.Stores.{IsUsed, place, with_word_in, word_in};
     ghost use Rattle.plain_pages.specs.References.{in_map, slot_at, stored, word_at};
     ghost use Rattle.slot_paged.specs.KnownPages.{known_over};
     ghost use Rattle.slot_paged.specs.PagedSlots.{paged_slots};
@@ -115,6 +115,7 @@ impl<S: Store> SlotPaged<S> {
         requires place { (paged_slots S.means (λ p. p.store) (λ p. beside_of p.tables)).place self.old space (address / PAGE_WORDS) ≡ Some found }
         ensures told { (d : DrumWords) (f : AForkName) → (paged_slots S.means (λ p. p.store) (λ p. beside_of p.tables)).fits self.old d → (paged_slots S.means (λ p. p.store) (λ p. beside_of p.tables)).space self.old f ≡ Some space
             → result ≡ word_at ((paged_slots S.means (λ p. p.store) (λ p. beside_of p.tables)).plain self.old d) (in_map (slot_at f address)) (address % PAGE_WORDS) }
+        ensures answer { (home : ℕ) → S.means.found self.old.store home ≡ Some found → word_in (place (S.means.homes self.old.store) home) (address % PAGE_WORDS) ≡ Some result }
         ensures only { OnlyUses (paged_slots S.means (λ p. p.store) (λ p. beside_of p.tables)) self.old self.new }
         ensures uses { (home : ℕ) → (paged_slots S.means (λ p. p.store) (λ p. beside_of p.tables)).store.found self.old home ≡ Some found → IsUsed (paged_slots S.means (λ p. p.store) (λ p. beside_of p.tables)).store home self.old self.new }
         ensures known { known_over (beside_of self.new.tables) (S.means.homes self.new.store) ≡ known_over (beside_of self.old.tables) (S.means.homes self.old.store) }
@@ -130,6 +131,8 @@ impl<S: Store> SlotPaged<S> {
         requires place { (paged_slots S.means (λ p. p.store) (λ p. beside_of p.tables)).place self.old space (address / PAGE_WORDS) ≡ Some found }
         ensures told { (d : DrumWords) (f : AForkName) → (paged_slots S.means (λ p. p.store) (λ p. beside_of p.tables)).fits self.old d → (paged_slots S.means (λ p. p.store) (λ p. beside_of p.tables)).space self.old f ≡ Some space
             → (paged_slots S.means (λ p. p.store) (λ p. beside_of p.tables)).fits self.new d × ((paged_slots S.means (λ p. p.store) (λ p. beside_of p.tables)).plain self.new d ≡ stored ((paged_slots S.means (λ p. p.store) (λ p. beside_of p.tables)).plain self.old d) (in_map (slot_at f address)) (address % PAGE_WORDS) word) }
+        ensures homes { (home : ℕ) → S.means.found self.old.store home ≡ Some found
+            → S.means.homes self.new.store ≡ slice_set (S.means.homes self.old.store) home (with_word_in (place (S.means.homes self.old.store) home) (address % PAGE_WORDS) word) }
         ensures fits { (d : DrumWords) → (paged_slots S.means (λ p. p.store) (λ p. beside_of p.tables)).fits self.old d → (paged_slots S.means (λ p. p.store) (λ p. beside_of p.tables)).fits self.new d }
         ensures loses { MayLose (paged_slots S.means (λ p. p.store) (λ p. beside_of p.tables)) self.old self.new }
         ensures uses { (home : ℕ) → (paged_slots S.means (λ p. p.store) (λ p. beside_of p.tables)).store.found self.old home ≡ Some found → IsUsed (paged_slots S.means (λ p. p.store) (λ p. beside_of p.tables)).store home self.old self.new }

@@ -16,18 +16,24 @@ use pager_walk::{Looked, MapTables, PagedEntry};
 use share_table::{Pointer, Share};
 use std::alloc::{AllocError, Global};
 
-/// The maps of forks, the names of pages and the shares; for each home the share of its page, where it has
-/// one, and how many pages of files name it; the homes of the pages of files; the next page serials; how many pages and how many forks there are,
-/// and how many of both there may be.
+/// What is kept in memory of maps and pages, with how many of them there are.
 #[derive(Drop)]
 pub struct PagedTables {
+    /// The maps of forks, the names of pages, and the shares.
     pub tables: MapTables,
+    /// By home, the share of its page, where it has one.
     pub shared: Vec<Option<Share>>,
+    /// By home, how many pages of files name its page.
     pub filed: Vec<u32>,
+    /// The homes of the pages of files.
     pub files: Files<Home>,
+    /// The next page serial of each owner.
     pub serials: PageSerials,
+    /// How many pages there are.
     pub taken: u32,
+    /// How many forks live.
     pub living: u32,
+    /// How many pages and forks there may be.
     pub limit: u32,
 }
 

@@ -108,24 +108,25 @@ impl<S: Store> SlotPaged<S> {
 }
 
 impl<S: Store> SlotPaged<S> {
-    ghost use Rattle.std.specs.Prelude.{◌≡◌, ◌≢◌, ◌+◌, ◌<◌, ◌≤◌, ◌^◌, is_some, true};
+    ghost use Rattle.std.specs.Prelude.{◌≡◌, ◌≢◌, ◌+◌, ◌<◌, ◌≤◌, ◌^◌, ℕ, is_some, true};
     ghost use Rattle.machine_names.specs.declared.names.TheConstants.{SPACE_PAGES};
     ghost use Rattle.machine_names.specs.declared.names.Tty.{Tty as ATty};
     ghost use Rattle.machine_names.specs.Bounds.{IsFilePage, IsOwner};
     ghost use Rattle.page_homes.specs.declared.homes.Home.{Home as AHome};
     ghost use Rattle.page_contracts.specs.DrumWords.{DrumWords};
     ghost use Rattle.page_contracts.specs.Pages.{IsPlace, SettlesTo, TakesFrames, can_settle, frames_taken, spot_of};
-    ghost use Rattle.page_contracts.specs.Stores.{IsUsed, Loses, traffic};
+    ghost use Rattle.page_contracts.specs.Stores.{IsUsed, Loses, is_taken, place, traffic};
     ghost use Rattle.plain_pages.specs.References.{settled};
     ghost use Rattle.flat_pages.specs.Serials.{serial_of};
     ghost use Rattle.pager_walk.specs.declared.chain_walk.Walked.TheVariants.{Along};
     ghost use Rattle.pager_walk.specs.MapPages.{index_of};
+    ghost use Rattle.pager_walk.specs.PagedMaps.{name_at};
     ghost use Rattle.pager_walk.specs.Walks.{WayStands, walk_at};
     ghost use Rattle.slot_paged.specs.PageHomes.{homed_over};
     ghost use Rattle.slot_paged.specs.PagedMeaning.{forks_in, lives_in};
     ghost use Rattle.slot_paged.specs.PagedTables.{FitsPages, beside_of, plain_over};
     ghost use Rattle.slot_paged.specs.PagedTouches.{scene_over, touched_over, walk_touched};
-    ghost use Rattle.slot_paged.specs.PlacesSettled.{FilesSettled, SettlesPlace, UsesPlace};
+    ghost use Rattle.slot_paged.specs.PlacesSettled.{FilesSettled, KeepsPages, SettlesPlace, UsesPlace};
 
     // The page of a file is settled.
     fn settle_filed(&mut self, file: FileNo, page: u16, kind: Kind, owner: Tty)
@@ -206,6 +207,9 @@ impl<S: Store> SlotPaged<S> {
         ensures scene { TakesFrames (scene_over (beside_of self.old.tables) (S.means.homes self.old.store) (S.means.spare self.old.store)) (scene_over (beside_of self.new.tables) (S.means.homes self.new.store) (S.means.spare self.new.store))
             (frames_taken (touched_over (beside_of self.old.tables) (S.means.homes self.old.store) (S.means.spare self.old.store) at kind)) }
         ensures count { self.new.tables.taken + self.new.tables.living ≡ self.old.tables.taken + self.old.tables.living + frames_taken (touched_over (beside_of self.old.tables) (S.means.homes self.old.store) (S.means.spare self.old.store) at kind) }
+        ensures taken { (k : ℕ) → is_taken (place (S.means.homes self.old.store) k) ≡ true → is_taken (place (S.means.homes self.new.store) k) ≡ true }
+        ensures pages { KeepsPages (beside_of self.old.tables) (S.means.homes self.old.store) (S.means.homes self.new.store) }
+        ensures names { (h : AHome) → homed_over (beside_of self.new.tables) (S.means.homes self.new.store) at ≡ PageHome.At h → (k : ℕ) → k ≢ h.0 → name_at (beside_of self.new.tables).tables.names k ≡ name_at (beside_of self.old.tables).tables.names k }
         ensures loses { Loses (traffic S.means self.old.store) (traffic S.means self.new.store) }
         ensures uses { UsesPlace S.means self.old.store self.new.store (beside_of self.old.tables) (beside_of self.new.tables) at kind }
         ensures filed { FilesSettled (beside_of self.old.tables) (beside_of self.new.tables) at (touched_over (beside_of self.old.tables) (S.means.homes self.old.store) (S.means.spare self.old.store) at kind) }

@@ -18,8 +18,8 @@ use share_table::Pointer;
 use std::alloc::Global;
 use word36::Word;
 
-/// The pages of forks and of files over a store, of which the maps of forks are pages too. A page that has
-/// more names than one has a share, which counts them.
+/// The pages of forks and of files over a store, of which the maps of forks are pages too (CACM paper, "The
+/// memory management"). A page that has more names than one has a share, which counts them.
 #[derive(Drop)]
 pub struct SlotPaged<S: Store> {
     pub(crate) store: S,
@@ -76,7 +76,7 @@ impl<S: Store> SlotPaged<S> {
     ghost use Rattle.page_homes.specs.declared.homes.Home.{Home as AHome};
     ghost use Rattle.page_contracts.specs.DrumWords.{DrumWords};
     ghost use Rattle.page_contracts.specs.Pages.{FollowsPage, IsPlace, PeekNeeds, SeenNeeds, TouchNeeds, absent_or, counted, framed, map_away, peek_of, seen_of, spot_of, touch_of};
-    ghost use Rattle.page_contracts.specs.Stores.{away, away_at, is_taken, place};
+    ghost use Rattle.page_contracts.specs.Stores.{away, away_at, is_taken, place, word_in};
     ghost use Rattle.plain_pages.specs.References.{word_at, page_at as named_at};
     ghost use Rattle.pager_walk.specs.PagedMaps.{look_at, seen_for};
     ghost use Rattle.outside.specs.declared.TheConstants.{PAGE_WORDS};
@@ -84,7 +84,7 @@ impl<S: Store> SlotPaged<S> {
     ghost use Rattle.pager_walk.specs.Walks.{WayStands};
     ghost use Rattle.slot_paged.specs.PagedTables.{FitsPages, beside_of, plain_over};
     ghost use Rattle.slot_paged.specs.PagedTouches.{alone_at, copy_touched, file_touched, made_touched, roomy, scene_over, touched_over, walk_touched};
-    ghost use Rattle.slot_paged.specs.PageHomes.{homed_over, peeked_at};
+    ghost use Rattle.slot_paged.specs.PageHomes.{counted_over, homed_over, peeked_at, peeked_over};
     ghost use Rattle.slot_paged.specs.PagedMeaning.{lives_in};
 
     // What wants a frame answers so, where none is free.
@@ -303,6 +303,7 @@ impl<S: Store> SlotPaged<S> {
             ⊎ (touched_over (beside_of self.now.tables) (S.means.homes self.now.store) (S.means.spare self.now.store) at Kind.Execute ≡ Touch.Ready) }
         ensures told { (d : DrumWords) → FitsPages (beside_of self.now.tables) (S.means.homes self.now.store) d
             → result ≡ word_at (plain_over (beside_of self.now.tables) (S.means.homes self.now.store) d) (spot_of at) offset }
+        ensures answer { (h : AHome) → homed_over (beside_of self.now.tables) (S.means.homes self.now.store) at ≡ PageHome.At h → word_in (place (S.means.homes self.now.store) h.0) offset ≡ Some result }
     {
         match self.home_of(at) {
             PageHome::At(home) => self.store.word(home, offset).unwrap_or(Word::ZERO),
@@ -316,6 +317,7 @@ impl<S: Store> SlotPaged<S> {
     pub fn peek(&self, at: Place, offset: u16) -> Peeked
         requires place { IsPlace (lives_in (beside_of self.now.tables)) at }
         requires offset { offset < PAGE_WORDS }
+        ensures answer { result ≡ peeked_over (beside_of self.now.tables) (S.means.homes self.now.store) at offset }
         ensures told { (d : DrumWords) → FitsPages (beside_of self.now.tables) (S.means.homes self.now.store) d
             → result ≡ peek_of (plain_over (beside_of self.now.tables) (S.means.homes self.now.store) d) (scene_over (beside_of self.now.tables) (S.means.homes self.now.store) (S.means.spare self.now.store)) (spot_of at) offset }
         ensures needs { PeekNeeds S.means self.now.store result }
@@ -332,6 +334,7 @@ impl<S: Store> SlotPaged<S> {
     /// there.
     pub fn page_at(&self, at: Place) -> Option<(PageName, u32)>
         requires { IsPlace (lives_in (beside_of self.now.tables)) at }
+        ensures answer { result ≡ counted_over (beside_of self.now.tables) (S.means.homes self.now.store) at }
         ensures told { (d : DrumWords) → FitsPages (beside_of self.now.tables) (S.means.homes self.now.store) d
             → map_away (plain_over (beside_of self.now.tables) (S.means.homes self.now.store) d) (scene_over (beside_of self.now.tables) (S.means.homes self.now.store) (S.means.spare self.now.store)) (spot_of at) ≡ None
             → result ≡ counted (plain_over (beside_of self.now.tables) (S.means.homes self.now.store) d) (named_at (plain_over (beside_of self.now.tables) (S.means.homes self.now.store) d) (spot_of at)) }
@@ -485,7 +488,7 @@ impl<S: Store> SlotPaged<S> {
 }
 
 impl<S: Store> SlotPaged<S> {
-    ghost use Rattle.std.specs.Prelude.{◌≡◌, ◌≢◌, ◌+◌, ◌<◌, ◌≤◌, ◌||◌, false, None};
+    ghost use Rattle.std.specs.Prelude.{◌≡◌, ◌≢◌, ◌+◌, ◌<◌, ◌≤◌, ◌||◌, ℕ, false, None, Some};
     ghost use Rattle.machine_names.specs.declared.names.ForkName.{ForkName as AForkName};
     ghost use Rattle.machine_names.specs.declared.names.Tty.{Tty as ATty};
     ghost use Rattle.machine_names.specs.declared.names.TheConstants.{LAST_SERIAL, MOST_FORKS, SPACE_PAGES, TERMINALS};
@@ -493,13 +496,14 @@ impl<S: Store> SlotPaged<S> {
     ghost use Rattle.machine_names.specs.PageWords.{zero_words};
     ghost use Rattle.page_contracts.specs.DrumWords.{DrumWords};
     ghost use Rattle.page_contracts.specs.Pages.{IsNewMap};
-    ghost use Rattle.page_contracts.specs.Stores.{IsMade, here};
+    ghost use Rattle.page_contracts.specs.Stores.{IsMade, here, place};
     ghost use Rattle.plain_pages.specs.NewMaps.{with_map};
     ghost use Rattle.pager_walk.specs.MapPages.{first_map, fork_at, index_of};
     ghost use Rattle.pager_walk.specs.NewPages.{following_words};
-    ghost use Rattle.slot_paged.specs.AddedForks.{AddsFork};
+    ghost use Rattle.slot_paged.specs.AddedForks.{AddsFork, new_words};
     ghost use Rattle.slot_paged.specs.PagedTables.{FitsPages, beside_of, plain_over};
     ghost use Rattle.slot_paged.specs.PagedMeaning.{forks_in, lives_in, with_fork};
+    ghost use Rattle.slot_paged.specs.PagedSlots.{map_home_over};
 
     // A number that no fork's map has, among those of a terminal.
     fn number_for(&self, tty: Tty) -> u32
@@ -577,6 +581,7 @@ impl<S: Store> SlotPaged<S> {
             → FitsPages (beside_of self.new.tables) (S.means.homes self.new.store) d
             × (plain_over (beside_of self.new.tables) (S.means.homes self.new.store) d ≡ with_map (plain_over (beside_of self.old.tables) (S.means.homes self.old.store) d) fork map) }
         ensures adds { AddsFork S.means self.old.store self.new.store (beside_of self.old.tables) (beside_of self.new.tables) fork }
+        ensures words { (home : ℕ) → map_home_over (beside_of self.new.tables) fork ≡ Some home → place (S.means.homes self.new.store) home ≡ here (new_words map) }
         ensures lives { (f : AForkName) → lives_in (beside_of self.new.tables) f ≡ (same_fork f fork || lives_in (beside_of self.old.tables) f) }
         ensures forks { forks_in (beside_of self.new.tables) fork.tty ≡ forks_in (beside_of self.old.tables) fork.tty + 1 }
         ensures others { (t : ATty) → t ≢ fork.tty → forks_in (beside_of self.new.tables) t ≡ forks_in (beside_of self.old.tables) t }

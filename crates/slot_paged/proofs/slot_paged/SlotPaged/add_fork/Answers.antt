@@ -1,9 +1,12 @@
-use Rattle.std.proofs.Common.{◌<◌, ◌∙◌, ap, arith, length}
+use Rattle.std.proofs.Common.{◌<◌, ◌∙◌, ap, arith, length, sym}
 use Rattle.machine_names.specs.PageWords.{zero_words}
+use Rattle.page_contracts.specs.Stores.{here}
+use Rattle.plain_pages.specs.declared.map.NewMap.{NewMap}
 use Rattle.pager_walk.specs.NewPages.{following_words}
+use Rattle.slot_paged.specs.AddedForks.{new_words}
 use Rattle.slot_paged.specs.PagedTables.{Beside, beside_of}
 use Rattle.slot_paged.specs.PagedMeaning.{forks_in, lives_in}
-use Rattle.slot_paged.proofs.ForksAdded.{following_bare, zero_bare}
+use Rattle.slot_paged.proofs.ForksAdded.{following_bare, map_words, zero_bare}
 use Rattle.slot_paged.proofs.NewForks.{absent_is, fork_lives, forks_more, forks_others}
 use Rattle.slot_paged.proofs.slot_paged.SlotPaged.add_fork.Goals as goal
 
@@ -97,3 +100,21 @@ returns-in-FollowAll-clause-adds g c =
       beside = c.begin_following.ensures.tables;
       bare = following_bare b.tables c.in-FollowAll.leader l.0 l.1;
     }
+
+pub returns-in-Empty-clause-words : goal.returns-in-Empty-clause-words
+returns-in-Empty-clause-words g c =
+    let s = c.args.self.now in
+    let b = beside_of s.tables in
+    let n = c.number_for-number.ensures in
+    let new = c.begin_empty.new.self in
+    let within : c.number_for-number.result < length b.tables.maps = omega (arith, s.kept.rooted.numbered.count, n.below, c.requires.terminal) in
+    λ home is. map_words g.S.Store.means s.store new.store b (beside_of new.tables) new.kept c.number_for-number.result within c.args.fork c.begin_empty.result zero_words c.begin_empty.ensures.tables c.begin_empty.ensures.made home is ∙ ap (λ (m : NewMap). here (new_words m)) (sym c.in-Empty.is)
+
+pub returns-in-FollowAll-clause-words : goal.returns-in-FollowAll-clause-words
+returns-in-FollowAll-clause-words g c =
+    let s = c.args.self.now in
+    let b = beside_of s.tables in
+    let n = c.number_for-number.ensures in
+    let new = c.begin_following.new.self in
+    let within : c.number_for-number.result < length b.tables.maps = omega (arith, s.kept.rooted.numbered.count, n.below, c.requires.terminal) in
+    λ home is. map_words g.S.Store.means s.store new.store b (beside_of new.tables) new.kept c.number_for-number.result within c.args.fork c.begin_following.result (following_words c.in-FollowAll.leader.serial 512) c.begin_following.ensures.tables c.begin_following.ensures.made home is ∙ ap (λ (m : NewMap). here (new_words m)) (sym c.in-FollowAll.is)

@@ -6,14 +6,15 @@ use Rattle.machine_names.specs.Orders.{file_page}
 use Rattle.plain_pages.specs.declared.map.NewEntry.TheVariants as new_entry
 use Rattle.plain_pages.specs.NewEntries.{IsNewEntry}
 use Rattle.share_table.specs.declared.pointer.Pointer.{Pointer}
-use Rattle.share_table.specs.Pointers.{IsPointer}
+use Rattle.share_table.specs.Pointers.{IsPointer, pointer_word}
 use Rattle.pager_walk.specs.declared.paged_entry.PagedEntry.TheVariants as paged
 use Rattle.pager_walk.specs.PagedMaps.{entry_for, is_near, name_of, plain_entry}
 use Rattle.flat_pages.proofs.FiledHomes.{get_filed}
-use Rattle.slot_paged.specs.PagedTables.{beside_of}
+use Rattle.slot_paged.specs.PagedTables.{Beside, beside_of}
 use Rattle.slot_paged.specs.PagedSlots.{filed_over}
 use Rattle.slot_paged.specs.SetEntries.{ChangesEntry, PutsPointer, narrow_paged, pointer_of}
 use Rattle.slot_paged.proofs.EntryChanged.{changes, narrow_is, page_is}
+use Rattle.slot_paged.proofs.HomesKept.{word_keeps}
 use Rattle.slot_paged.proofs.JoinDone.{kept_done}
 use Rattle.slot_paged.proofs.NarrowEntry.{narrow_fits, narrow_follows, narrow_points, narrow_stands}
 use Rattle.slot_paged.proofs.slot_paged.SlotPaged.change.Goals as goal
@@ -54,8 +55,8 @@ put_kept-requires-clause-entry g c =
     let pointer : c.pointer_of-pointer.result ≡ pointer_of b (narrow_paged a q) = c.pointer_of-pointer.ensures ∙ ap (pointer_of b) c.narrowed.ensures in
     subst (λ (p : Pointer). IsSome (entry_for b.tables p)) (sym pointer) (ap is_some (narrow_stands b places s.kept at a q r.seen))
 
-pub returns-in-Empty : goal.returns-in-Empty
-returns-in-Empty g c =
+pub returns-in-Empty-clause-changes : goal.returns-in-Empty-clause-changes
+returns-in-Empty-clause-changes g c =
     let s = c.args.self.now in
     let b = beside_of s.tables in
     let store = g.S.Store.means in
@@ -67,8 +68,8 @@ returns-in-Empty g c =
     let new = c.set_unnamed.new.self in
     subst (ChangesEntry store s.store new.store b (beside_of new.tables) at) (sym c.in-Empty.is) (changes store s.store new.store b (beside_of new.tables) s.kept pages at r.page q r.seen new_entry.Empty paged.Empty (c.set_unnamed.ensures.sets paged.Empty refl) (λ d. refl))
 
-pub returns-in-Follows : goal.returns-in-Follows
-returns-in-Follows g c =
+pub returns-in-Follows-clause-changes : goal.returns-in-Follows-clause-changes
+returns-in-Follows-clause-changes g c =
     let s = c.args.self.now in
     let b = beside_of s.tables in
     let store = g.S.Store.means in
@@ -82,8 +83,8 @@ returns-in-Follows g c =
     subst (ChangesEntry store s.store new.store b (beside_of new.tables) at) (sym c.in-Follows.is)
     (changes store s.store new.store b (beside_of new.tables) s.kept pages at r.page q r.seen (new_entry.Follows c.in-Follows.serial c.in-Follows.page c.in-Follows.access) e (c.set_unnamed-in-Follows.ensures.sets e refl) (λ d. refl))
 
-pub returns-in-Some : goal.returns-in-Some
-returns-in-Some g c =
+pub returns-in-Some-clause-changes : goal.returns-in-Some-clause-changes
+returns-in-Some-clause-changes g c =
     let s = c.args.self.now in
     let b = beside_of s.tables in
     let store = g.S.Store.means in
@@ -96,11 +97,11 @@ returns-in-Some g c =
     let home = c.in-Some.home in
     let there = sym c.filed.ensures ∙ c.in-Some.is in
     subst (ChangesEntry store s.store new.store b (beside_of new.tables) at) (sym c.in-FilePage.is)
-    (changes store s.store new.store b (beside_of new.tables) s.kept pages at r.page q r.seen (new_entry.FilePage c.in-FilePage.file c.in-FilePage.page c.in-FilePage.access) (paged.Page home c.in-FilePage.access) c.set_page.ensures
+    (changes store s.store new.store b (beside_of new.tables) s.kept pages at r.page q r.seen (new_entry.FilePage c.in-FilePage.file c.in-FilePage.page c.in-FilePage.access) (paged.Page home c.in-FilePage.access) c.set_page.ensures.sets
     (λ d. page_is b places d c.in-FilePage.file c.in-FilePage.page c.in-FilePage.access home (plain_entry b.tables.names q) there))
 
-pub returns-in-Narrow : goal.returns-in-Narrow
-returns-in-Narrow g c =
+pub returns-in-Narrow-clause-changes : goal.returns-in-Narrow-clause-changes
+returns-in-Narrow-clause-changes g c =
     let s = c.args.self.now in
     let b = beside_of s.tables in
     let store = g.S.Store.means in
@@ -116,3 +117,19 @@ returns-in-Narrow g c =
     let sets = kept_done store s.store new.store b (beside_of new.tables) s.kept new.kept pages (g.met.S.Store.sound new.store).pages at (record { page = r.page; near = ap is_near r.seen }) (pointer_of b (narrow_paged a q)) (narrow_fits b places s.kept at a q r.seen) q (narrow_paged a q) r.seen
     (narrow_stands b places s.kept at a q r.seen) (narrow_points b places s.kept at a q) (narrow_follows b places s.kept at a q r.seen) puts in
     subst (ChangesEntry store s.store new.store b (beside_of new.tables) at) (sym c.in-Narrow.is) (changes store s.store new.store b (beside_of new.tables) s.kept pages at r.page q r.seen (new_entry.Narrow a) (narrow_paged a q) sets (λ d. narrow_is b.tables.names a q))
+
+pub returns-in-Empty-clause-keeps : goal.returns-in-Empty-clause-keeps
+returns-in-Empty-clause-keeps g c = c.set_unnamed.ensures.frees.keeps
+
+pub returns-in-Follows-clause-keeps : goal.returns-in-Follows-clause-keeps
+returns-in-Follows-clause-keeps g c = c.set_unnamed-in-Follows.ensures.frees.keeps
+
+pub returns-in-Some-clause-keeps : goal.returns-in-Some-clause-keeps
+returns-in-Some-clause-keeps g c = c.set_page.ensures.keeps
+
+pub returns-in-Narrow-clause-keeps : goal.returns-in-Narrow-clause-keeps
+returns-in-Narrow-clause-keeps g c =
+    let s = c.args.self.now in
+    let new = c.put_kept.new.self in
+    let z = c.put_kept.ensures in
+    word_keeps g.S.Store.means s.store new.store (beside_of s.tables) (beside_of new.tables) s.kept c.args.slot z.number z.numbered (pointer_word c.pointer_of-pointer.result) z.homes (ap (λ (x : Beside). x.tables.names) z.beside)

@@ -45,3 +45,6 @@ returns-clause-only g c =
 
 pub returns-clause-uses : goal.returns-clause-uses
 returns-clause-uses g c home is = used_within g.S.Store.means (λ p. p.store) home c.args.self.now _ (c.load.ensures.used home is)
+
+pub returns-clause-answer : goal.returns-clause-answer
+returns-clause-answer g c = c.load.ensures.word

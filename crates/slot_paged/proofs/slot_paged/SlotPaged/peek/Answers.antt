@@ -1,5 +1,6 @@
-use Rattle.std.proofs.Common.{◌∙◌, refl, subst, sym}
+use Rattle.std.proofs.Common.{◌∙◌, refl, ap, subst, sym}
 use Rattle.page_contracts.specs.Pages.{PeekNeeds}
+use Rattle.slot_paged.specs.PageHomes.{peeked_home}
 use Rattle.slot_paged.specs.PagedTables.{beside_of}
 use Rattle.slot_paged.proofs.Homed.{peek_map, peek_needed, peek_nothing, peek_told, place_stands, place_tells}
 use Rattle.slot_paged.proofs.slot_paged.SlotPaged.peek.Goals as goal
@@ -11,6 +12,7 @@ returns-in-At g c =
     let places = g.S.Store.means.homes s.store in
     let h = c.in-At.home in
     record {
+      answer = c.peek_home.ensures ∙ ap (peeked_home places c.args.offset) c.in-At.ensures.answer;
       told = λ d fits. c.peek_home.ensures ∙ peek_told b places s.kept (g.met.S.Store.sound s.store).pages d fits c.args.at c.requires.place h (sym c.in-At.ensures.answer) (g.S.Store.means.spare s.store) c.args.offset;
       needs = subst (PeekNeeds g.S.Store.means s.store) (sym c.peek_home.ensures) (peek_needed g.S.Store.means s.store h c.args.offset (c.in-At.ensures.taken h refl));
     }
@@ -32,3 +34,9 @@ returns-in-NoPage-clause-told g c d fits =
     let pages = (g.met.S.Store.sound s.store).pages in
     sym (peek_nothing b places s.kept pages d fits c.args.at c.requires.place (place_stands b places s.kept c.args.at c.requires.place) (place_tells b places s.kept pages d fits c.args.at c.requires.place)
     (sym c.in-NoPage.ensures.answer) (g.S.Store.means.spare s.store) c.args.offset)
+
+pub returns-in-MapAway-clause-answer : goal.returns-in-MapAway-clause-answer
+returns-in-MapAway-clause-answer g c = ap (peeked_home (g.S.Store.means.homes c.args.self.now.store) c.args.offset) c.in-MapAway.ensures.answer
+
+pub returns-in-NoPage-clause-answer : goal.returns-in-NoPage-clause-answer
+returns-in-NoPage-clause-answer g c = ap (peeked_home (g.S.Store.means.homes c.args.self.now.store) c.args.offset) c.in-NoPage.ensures.answer

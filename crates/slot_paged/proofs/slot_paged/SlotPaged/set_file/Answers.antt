@@ -52,3 +52,9 @@ returns-clause-lives g c = λ i f. is_some (index_of (c.refile.ensures.maps i) f
 
 pub returns-in_default-clause-lives : goal.returns-in_default-clause-lives
 returns-in_default-clause-lives g c = λ i f. is_some (index_of (c.unfile.ensures.maps i) f)
+
+pub returns-clause-homes : goal.returns-clause-homes
+returns-clause-homes g c = c.refile.ensures.homes
+
+pub returns-in_default-clause-homes : goal.returns-in_default-clause-homes
+returns-in_default-clause-homes g c = c.unfile.ensures.homes

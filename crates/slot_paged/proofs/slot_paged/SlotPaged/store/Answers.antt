@@ -81,3 +81,6 @@ returns-clause-known g c =
     let offset = c.args.address % 512 in
     let apart = put_apart b places s.kept sound.pages at x.there x.home x.is x.words x.holds offset c.args.word in
     ap (known_over b) (c.store.ensures.homes x.home.0 x.spots) ∙ knowns_same b places (slice_set places x.home.0 (with_word_in (place places x.home.0) offset c.args.word)) (put_roots b.tables places x.home.0 x.words x.holds offset c.args.word apart)
+
+pub returns-clause-homes : goal.returns-clause-homes
+returns-clause-homes g c = c.store.ensures.homes
