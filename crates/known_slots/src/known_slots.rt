@@ -33,11 +33,12 @@ impl<S: Store + Drop> KnownSlots<S> {
 }
 
 impl<S: Store> KnownSlots<S> {
-    ghost use Rattle.std.specs.Prelude.{◌≡◌, ◌<◌};
+    ghost use Rattle.std.specs.Prelude.{◌≡◌, ℕ, ◌-◌, ◌^◌, ◌<◌};
     ghost use Rattle.machine_names.specs.declared.names.TheConstants.{SPACE_PAGES};
     ghost use Rattle.page_contracts.specs.Pages.{HasSpace};
     ghost use Rattle.slot_paged.specs.KnownPages.{found_known, known_over, lets_change, lets_known};
     ghost use Rattle.slot_paged.specs.PagedSlots.{paged_slots};
+    ghost use Rattle.known_slots.specs.WalkTimes.{known_rows};
 
     /// Whether a fork lives.
     pub fn lives(&self, fork: ForkName) -> bool
@@ -72,24 +73,29 @@ impl<S: Store> KnownSlots<S> {
         }
     }
 
-    // What a walk comes to is known from now on.
+    // What a walk comes to is known from now on, until the last time; what is known of other pages stays.
     #[inline(never)]
     fn learn(&mut self, space: SpaceHandle, page: u16)
         requires space { HasSpace (paged_slots S.means (λ p. p.pages.store) (λ p. beside_of p.pages.tables)) self.old space }
         requires page { page < SPACE_PAGES }
-        ensures { self.new.pages ≡ self.old.pages }
+        ensures pages { self.new.pages ≡ self.old.pages }
+        ensures known { self.old.walks.time < 2 ^ 64 - 1 → known_rows self.new.walks.rows.items self.new.walks.time space.0 page ≡ known_over (beside_of self.new.pages.tables) (S.means.homes self.new.pages.store) space page }
+        ensures others { (s p : ℕ) → p < SPACE_PAGES → ((s ≡ space.0) × (p ≡ page) → ⊥) → known_rows self.new.walks.rows.items self.new.walks.time s p ≡ known_rows self.old.walks.rows.items self.old.walks.time s p }
     {
         if let Some(known) = self.pages.known(space, page) {
             self.walks.remember(space, page, known);
         }
     }
 
-    /// What is not known of a page that is used is learned.
+    /// What is not known of a page that is used is learned, so that it is known then, until the last time; what is
+    /// known of other pages stays.
     #[inline(always)]
     pub(crate) fn know(&mut self, space: SpaceHandle, page: u16)
         requires space { HasSpace (paged_slots S.means (λ p. p.pages.store) (λ p. beside_of p.pages.tables)) self.old space }
         requires page { page < SPACE_PAGES }
-        ensures { self.new.pages ≡ self.old.pages }
+        ensures pages { self.new.pages ≡ self.old.pages }
+        ensures known { self.old.walks.time < 2 ^ 64 - 1 → known_rows self.new.walks.rows.items self.new.walks.time space.0 page ≡ known_over (beside_of self.new.pages.tables) (S.means.homes self.new.pages.store) space page }
+        ensures others { (s p : ℕ) → p < SPACE_PAGES → ((s ≡ space.0) × (p ≡ page) → ⊥) → known_rows self.new.walks.rows.items self.new.walks.time s p ≡ known_rows self.old.walks.rows.items self.old.walks.time s p }
     {
         if self.walks.page(space, page).is_none() {
             self.learn(space, page);

@@ -96,10 +96,12 @@ impl KnownWalks {
         }
     }
 
-    /// A walk has come to this, which is known from now on. At the last time nothing is remembered any more.
+    /// A walk has come to this, which is known from now on, and what is known of other pages stays. At the last
+    /// time nothing is remembered any more.
     pub fn remember(&mut self, space: SpaceHandle, page: u16, known: KnownPage)
         requires { page < SPACE_PAGES }
         ensures from { (s p : ℕ) (k : AKnownPage) → p < SPACE_PAGES → known_rows self.new.rows.items self.new.time s p ≡ Some k → (known_rows self.old.rows.items self.old.time s p ≡ Some k) ⊎ ((s ≡ space.0) × (p ≡ page) × (k ≡ known)) }
+        ensures others { (s p : ℕ) → p < SPACE_PAGES → ((s ≡ space.0) × (p ≡ page) → ⊥) → known_rows self.new.rows.items self.new.time s p ≡ known_rows self.old.rows.items self.old.time s p }
         ensures known { space.0 < MOST_MAPS → self.old.time < 2 ^ 64 - 1 → known_rows self.new.rows.items self.new.time space.0 page ≡ Some known }
     {
         let number = row_number(space, page);

@@ -12,4 +12,4 @@ invariant_of-self g c = record { known = λ space page k below is. (λ i. c.load
 pub returns-clause-only : goal.returns-clause-only
 returns-clause-only g c =
     only_within g.S.Store.means (λ (p : SlotPaged g.row.S.Denot g.S.Store). p.store) (λ p. beside_of p.tables) (λ p. p.pages) c.args.self.now _
-    (subst (λ (p : SlotPaged g.row.S.Denot g.S.Store). OnlyUses (paged_slots g.S.Store.means (λ q. q.store) (λ q. beside_of q.tables)) p c.load.new.self) c.know.ensures c.load.ensures.only)
+    (subst (λ (p : SlotPaged g.row.S.Denot g.S.Store). OnlyUses (paged_slots g.S.Store.means (λ q. q.store) (λ q. beside_of q.tables)) p c.load.new.self) c.know.ensures.pages c.load.ensures.only)

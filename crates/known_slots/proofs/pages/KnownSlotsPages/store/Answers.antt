@@ -12,4 +12,4 @@ invariant_of-self g c = record { known = λ space page k below is. (λ i. c.stor
 pub returns-clause-stays : goal.returns-clause-stays
 returns-clause-stays g c =
     put_within g.S.Store.means (λ (p : SlotPaged g.row.S.Denot g.S.Store). p.store) (λ p. beside_of p.tables) (λ p. p.pages) c.args.self.now _
-    (subst (λ (p : SlotPaged g.row.S.Denot g.S.Store). StaysPut (paged_slots g.S.Store.means (λ q. q.store) (λ q. beside_of q.tables)) p c.store.new.self) c.know.ensures c.store.ensures.stays)
+    (subst (λ (p : SlotPaged g.row.S.Denot g.S.Store). StaysPut (paged_slots g.S.Store.means (λ q. q.store) (λ q. beside_of q.tables)) p c.store.new.self) c.know.ensures.pages c.store.ensures.stays)
