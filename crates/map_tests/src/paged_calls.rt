@@ -6,6 +6,7 @@ ghost use Rattle.slot_paged.specs.PagedTables.{beside_of};
 ghost use Rattle.map_tests.specs.Counted.{AreCounted};
 
 use crate::made::made;
+use crate::same::same;
 use known_slots::KnownSlots;
 use machine_names::{Access, FileNo, ForkName, Kind, PageName, Place, Slot, Tty};
 use outside::Drum;
@@ -22,7 +23,7 @@ use word36::Word;
 pub const FILE: FileNo = FileNo(3);
 
 /// What becomes of a reference.
-#[derive(Clone, Copy, PartialEq, Eq)]
+#[derive(Clone, Copy, PartialEq)]
 pub enum Came {
     /// The page may be referenced.
     Ready,
@@ -67,6 +68,16 @@ pub fn begun<R: Abort + AllocGlobal>(rt: &R, frames: u32, limit: u32) -> PagedCa
         made: 0,
     }
 }
+
+/// A page of zeros is made at a slot that has none.
+pub fn make_zeros(rt: &impl Abort, pages: &mut PagedCalls, slot: Slot) {
+    let touch = pages.touch(slot, Kind::Write);
+    same(rt, matches!(touch, Touch::Zero), true);
+    same(rt, pages.refer(slot, Kind::Write), Came::Made);
+}
+
+/// The pages are let go. What they are made of is taken apart here alone, for all tests.
+pub fn let_go(_pages: PagedCalls) {}
 
 impl PagedCalls {
     /// The fork of terminal 1 with a serial begins to live with an empty map, where there is room.
@@ -139,49 +150,70 @@ impl PagedCalls {
         }
     }
 
-    /// Puts a word into a page of a fork's space that may be written, as it was found.
-    pub fn store(&mut self, slot: Slot, word: u64) -> bool {
+    /// What a reference finds. Denied, where there is no such page.
+    pub fn touch(&self, slot: Slot, kind: Kind) -> Touch {
         if !self.pages.lives(slot.fork) || slot.page >= 512 {
+            return Touch::Denied(kind);
+        }
+        self.pages.touch(Place::Fork(slot), kind)
+    }
+
+    /// What a reference to read waits for is asked for. False, where it waits for no map and no page.
+    pub fn ask(&mut self, slot: Slot) -> bool {
+        if !self.pages.lives(slot.fork) || slot.page >= 512 {
+            return false;
+        }
+        let Touch::Absent(home) = self.pages.touch(Place::Fork(slot), Kind::Read) else {
+            return false;
+        };
+        let _awaited = self.pages.fetch(Need::Page(home));
+        true
+    }
+
+    /// Puts a word at an offset of a page of a fork's space that may be written, as it was found.
+    pub fn store(&mut self, slot: Slot, offset: u16, word: u64) -> bool {
+        if !self.pages.lives(slot.fork) || slot.page >= 512 || offset >= 512 {
             return false;
         }
         let space = self.pages.space(slot.fork);
         let Some(found) = self.pages.find_to_change(space, slot.page) else {
             return false;
         };
-        let address = u32::from(slot.page) * 512;
+        let address = u32::from(slot.page) * 512 + u32::from(offset);
         self.pages.store(space, found, address, Word::wrapped(word));
         true
     }
 
-    /// The word of a page of a fork's space that may be read, as it was found.
-    pub fn load(&mut self, slot: Slot) -> Option<u64> {
-        if !self.pages.lives(slot.fork) || slot.page >= 512 {
+    /// The word at an offset of a page of a fork's space that may be read, as it was found.
+    pub fn load(&mut self, slot: Slot, offset: u16) -> Option<u64> {
+        if !self.pages.lives(slot.fork) || slot.page >= 512 || offset >= 512 {
             return None;
         }
         let space = self.pages.space(slot.fork);
         let found = self.pages.find(space, slot.page, Kind::Read)?;
-        let address = u32::from(slot.page) * 512;
+        let address = u32::from(slot.page) * 512 + u32::from(offset);
         Some(self.pages.load(space, found, address).value())
     }
 
-    /// Puts a word into the page of a slot that a touch to write finds ready.
-    pub fn put(&mut self, slot: Slot, word: u64) -> bool {
-        if !self.pages.lives(slot.fork) || slot.page >= 512 {
+    /// Puts a word at an offset of the page of a slot that a touch to write finds ready.
+    pub fn put(&mut self, slot: Slot, offset: u16, word: u64) -> bool {
+        if !self.pages.lives(slot.fork) || slot.page >= 512 || offset >= 512 {
             return false;
         }
         let Touch::Ready = self.pages.touch(Place::Fork(slot), Kind::Write) else {
             return false;
         };
-        self.pages.put(Place::Fork(slot), 0, Word::wrapped(word));
+        self.pages
+            .put(Place::Fork(slot), offset, Word::wrapped(word));
         true
     }
 
-    /// What a look at the word of a slot's page finds.
-    pub fn peek(&self, slot: Slot) -> Peeked {
-        if !self.pages.lives(slot.fork) || slot.page >= 512 {
+    /// What a look at the word at an offset of a slot's page finds.
+    pub fn peek(&self, slot: Slot, offset: u16) -> Peeked {
+        if !self.pages.lives(slot.fork) || slot.page >= 512 || offset >= 512 {
             return Peeked::NoPage;
         }
-        self.pages.peek(Place::Fork(slot), 0)
+        self.pages.peek(Place::Fork(slot), offset)
     }
 
     /// The page of a slot, with the number of its names.

@@ -1,6 +1,6 @@
 // Calls by chance over maps that are pages, of which few are in frames, against plain lists.
 use crate::made::made;
-use crate::paged_calls::{Came, PagedCalls, begun, first};
+use crate::paged_calls::{Came, PagedCalls, begun, first, let_go};
 use crate::plain_maps::{FILED, FORKS, Plain, PlainMaps, SPACE, agrees, number};
 use crate::same::same_at;
 use machine_names::{Kind, Slot};
@@ -92,9 +92,9 @@ impl Both {
             return;
         }
         let put = if word & 1 == 0 {
-            self.pages.put(slot(at), word)
+            self.pages.put(slot(at), 0, word)
         } else {
-            self.pages.store(slot(at), word)
+            self.pages.store(slot(at), 0, word)
         };
         same_at(rt, call, put, true);
         if let Some(page) = self.plain.page(at) {
@@ -107,7 +107,7 @@ impl Both {
         if !self.refer(rt, call, at, Kind::Read) {
             return false;
         }
-        let word = self.pages.load(slot(at));
+        let word = self.pages.load(slot(at), 0);
         same_at(rt, call, word, self.plain.peek(at));
         true
     }
@@ -199,7 +199,7 @@ impl Both {
 
     // The word of an entry's page, and how many names that has, are those of the lists.
     fn compare(&self, rt: &impl Abort, call: u64, at: usize) {
-        let peeked = self.pages.peek(slot(at));
+        let peeked = self.pages.peek(slot(at), 0);
         same_at(rt, call, agrees(&peeked, self.plain.peek(at)), true);
         if let Peeked::Is(_) = &peeked {
             let names = match self.pages.page_at(slot(at)) {
@@ -213,7 +213,7 @@ impl Both {
 
     // A page that is found, or is known, has the word of the lists.
     fn look(&mut self, rt: &impl Abort, call: u64, at: usize) {
-        let word = self.pages.load(slot(at));
+        let word = self.pages.load(slot(at), 0);
         if word.is_some() {
             same_at(rt, call, word, self.plain.peek(at));
         }
@@ -221,10 +221,10 @@ impl Both {
 
     // Two entries whose pages are in frames have one page exactly where the lists say so.
     fn compare_both(&self, rt: &impl Abort, call: u64, at: usize, other: usize) {
-        let Peeked::Is(_) = self.pages.peek(slot(at)) else {
+        let Peeked::Is(_) = self.pages.peek(slot(at), 0) else {
             return;
         };
-        let Peeked::Is(_) = self.pages.peek(slot(other)) else {
+        let Peeked::Is(_) = self.pages.peek(slot(other), 0) else {
             return;
         };
         let Some((one, _)) = self.pages.page_at(slot(at)) else {
@@ -250,6 +250,17 @@ impl Both {
         }
     }
 
+    // Two entries by chance, and what there is at all, are as the lists say.
+    fn agree(&mut self, rt: &impl Abort, call: u64, chance: u64) {
+        let at = below(chance, 20, FORKS * SPACE);
+        let other = below(chance, 28, FORKS * SPACE);
+        self.look(rt, call, at);
+        self.look(rt, call, other);
+        self.compare(rt, call, at);
+        self.compare_both(rt, call, at, other);
+        self.count(rt, call);
+    }
+
     // A page is brought in, with the maps on its way, and read.
     fn bring<D: Drum>(&mut self, rt: &impl Abort, drum: &mut D, at: usize) {
         if self.plain.page(at).is_none() {
@@ -266,6 +277,23 @@ impl Both {
     }
 }
 
+// Calls by chance, behind each of which all is as the lists say.
+fn goes_on<D: Drum>(rt: &impl Abort, both: &mut Both, drum: &mut D) {
+    let mut chance = 1972;
+    for call in 0..10000 {
+        chance = next(chance);
+        both.step(rt, drum, call, chance);
+        both.agree(rt, call, chance);
+    }
+}
+
+// Each page that the lists have comes in.
+fn all_come<D: Drum>(rt: &impl Abort, both: &mut Both, drum: &mut D) {
+    for at in 0..FORKS * SPACE {
+        both.bring(rt, drum, at);
+    }
+}
+
 #[test]
 fn maps_that_are_pages_are_plain_lists(rt: HostRuntime) {
     let mut drum = made(&rt, SureDrum::new(rt.alloc(), MOST_HOMES));
@@ -273,19 +301,11 @@ fn maps_that_are_pages_are_plain_lists(rt: HostRuntime) {
         pages: begun(&rt, FRAMES, LIMIT),
         plain: PlainMaps::new(),
     };
-    let mut chance = 1972;
-    for call in 0..10000 {
-        chance = next(chance);
-        both.step(&rt, &mut drum, call, chance);
-        let at = below(chance, 20, FORKS * SPACE);
-        let other = below(chance, 28, FORKS * SPACE);
-        both.look(&rt, call, at);
-        both.look(&rt, call, other);
-        both.compare(&rt, call, at);
-        both.compare_both(&rt, call, at, other);
-        both.count(&rt, call);
-    }
-    for at in 0..FORKS * SPACE {
-        both.bring(&rt, &mut drum, at);
-    }
+    goes_on(&rt, &mut both, &mut drum);
+    all_come(&rt, &mut both, &mut drum);
+    let Both {
+        pages,
+        plain: _plain,
+    } = both;
+    let_go(pages);
 }

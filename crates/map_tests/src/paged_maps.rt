@@ -1,132 +1,76 @@
 // Maps of forks that are pages, in frames and on a drum.
 use crate::made::made;
+use crate::paged_calls::{PagedCalls, begun, first, let_go, make_zeros};
 use crate::same::same;
-use machine_names::{ForkName, Kind, Place, Slot, Tty};
+use machine_names::{Kind, Slot};
 use outside::{Drum, SureDrum};
-use page_contracts::{Need, Peeked, Room, Touch};
-use page_homes::{FrameId, MOST_HOMES};
-use paged_store::PagedStore;
-use plain_pages::NewMap;
-use slot_paged::SlotPaged;
+use page_contracts::{Peeked, Touch};
+use page_homes::MOST_HOMES;
 use std::process::Abort;
-use word36::Word;
 
 // How many frames there are.
 const FRAMES: u32 = 6;
 
-// Two forks of one terminal.
-const FIRST: ForkName = ForkName {
-    tty: Tty(1),
-    serial: 1,
-};
-
-const SECOND: ForkName = ForkName {
-    tty: Tty(1),
-    serial: 2,
-};
-
-// A page of each.
-const OF_FIRST: Slot = Slot {
-    fork: FIRST,
-    page: 5,
-};
-
-const OF_SECOND: Slot = Slot {
-    fork: SECOND,
-    page: 5,
-};
-
-// The oldest transfer ends, on a drum with enough pages.
-fn complete<D: Drum>(pages: &mut SlotPaged<PagedStore>, drum: &mut D) {
-    if pages.limit() <= drum.pages() {
-        let _told = pages.complete(drum);
+// Page 5 of the fork with a serial.
+fn fifth(serial: u32) -> Slot {
+    Slot {
+        fork: first(serial),
+        page: 5,
     }
 }
 
-// What a reference finds, once what stood in its way was brought in: four maps and a page at most.
-fn brought<D: Drum>(
-    rt: &impl Abort,
-    pages: &mut SlotPaged<PagedStore>,
-    drum: &mut D,
-    at: Slot,
-) -> Touch {
-    for _way in 0..5 {
-        if !pages.lives(at.fork) || at.page >= 512 {
-            panic!(rt; "no such page");
-        }
-        let Touch::Absent(home) = pages.touch(Place::Fork(at), Kind::Read) else {
-            break;
-        };
-        let _asked = pages.fetch(Need::Page(home));
-        complete(pages, drum);
-    }
-    if !pages.lives(at.fork) || at.page >= 512 {
-        panic!(rt; "no such page");
-    }
-    pages.touch(Place::Fork(at), Kind::Read)
+// A fork, and one whose map follows it, in which a page of zeros is made and written.
+fn begins_with_a_page(rt: &impl Abort, pages: &mut PagedCalls) {
+    same(rt, pages.add_empty(1), true);
+    same(rt, pages.add_following(2, 1), true);
+    same(rt, pages.live(), 2);
+    make_zeros(rt, pages, fifth(2));
+    same(rt, pages.live(), 3);
+    same(rt, pages.put(fifth(2), 7, 0o1234), true);
 }
 
 // All frames are emptied.
-fn emptied<D: Drum>(pages: &mut SlotPaged<PagedStore>, drum: &mut D) {
+fn emptied<D: Drum>(pages: &mut PagedCalls, drum: &mut D) {
     for frame in 0..FRAMES {
-        pages.evict(FrameId(frame));
+        pages.evict(frame);
     }
     for _frame in 0..FRAMES {
-        complete(pages, drum);
+        pages.complete(drum);
     }
+}
+
+// Whether a page may be read, once what stood in its way was brought in: four maps and a page at most.
+fn brought<D: Drum>(pages: &mut PagedCalls, drum: &mut D, at: Slot) -> bool {
+    for _way in 0..5 {
+        if !pages.ask(at) {
+            break;
+        }
+        pages.complete(drum);
+    }
+    matches!(pages.touch(at, Kind::Read), Touch::Ready)
+}
+
+// The page of both has its word, and one name.
+fn is_of_both(rt: &impl Abort, pages: &PagedCalls) {
+    let word = match pages.peek(fifth(1), 7) {
+        Peeked::Is(word) => Some(word.value()),
+        _ => None,
+    };
+    same(rt, word, Some(0o1234));
+    let named = match pages.page_at(fifth(1)) {
+        Some((name, names)) => Some((name.serial, names)),
+        None => None,
+    };
+    same(rt, named, Some((1, 1)));
 }
 
 #[test]
 fn maps_go_to_the_drum_and_come_back(rt: HostRuntime) {
-    let store = made(&rt, PagedStore::boot(rt.alloc(), FRAMES, 16));
-    let mut pages = made(&rt, SlotPaged::boot(rt.alloc(), store, 16));
     let mut drum = made(&rt, SureDrum::new(rt.alloc(), MOST_HOMES));
-    let Room::Enough = pages.room(1) else {
-        panic!(&rt; "no room");
-    };
-    if pages.lives(FIRST) {
-        panic!(&rt; "it lives");
-    }
-    pages.add_fork(FIRST, NewMap::Empty);
-    let Room::Enough = pages.room(1) else {
-        panic!(&rt; "no room");
-    };
-    if pages.lives(SECOND) || !pages.lives(FIRST) {
-        panic!(&rt; "the first lives, and no other");
-    }
-    pages.add_fork(SECOND, NewMap::FollowAll(FIRST));
-    same(&rt, pages.live(), 2);
-    if !pages.lives(SECOND) {
-        panic!(&rt; "it lives");
-    }
-    let Touch::Zero = pages.touch(Place::Fork(OF_SECOND), Kind::Write) else {
-        panic!(&rt; "an empty page");
-    };
-    pages.settle(Place::Fork(OF_SECOND), Kind::Write, Tty(1));
-    same(&rt, pages.live(), 3);
-    if !pages.lives(SECOND) {
-        panic!(&rt; "it lives");
-    }
-    let Touch::Ready = pages.touch(Place::Fork(OF_SECOND), Kind::Write) else {
-        panic!(&rt; "a page of zeros");
-    };
-    pages.put(Place::Fork(OF_SECOND), 7, Word::wrapped(0o1234));
+    let mut pages = begun(&rt, FRAMES, 16);
+    begins_with_a_page(&rt, &mut pages);
     emptied(&mut pages, &mut drum);
-    let Touch::Ready = brought(&rt, &mut pages, &mut drum, OF_SECOND) else {
-        panic!(&rt; "it came back");
-    };
-    if !pages.lives(FIRST) {
-        panic!(&rt; "it lives");
-    }
-    match pages.peek(Place::Fork(OF_FIRST), 7) {
-        Peeked::Is(word) => same(&rt, word.value(), 0o1234),
-        _ => panic!(&rt; "the page of both"),
-    }
-    match pages.page_at(Place::Fork(OF_FIRST)) {
-        Some((name, names)) => {
-            same(&rt, name.serial, 1);
-            same(&rt, names, 1);
-        }
-        None => panic!(&rt; "it has a name"),
-    }
+    same(&rt, brought(&mut pages, &mut drum, fifth(2)), true);
+    is_of_both(&rt, &pages);
+    let_go(pages);
 }

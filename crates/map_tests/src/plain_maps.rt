@@ -14,7 +14,7 @@ const ENTRIES: usize = FORKS * SPACE;
 const PAGES: usize = 32;
 
 /// An entry: none, a page, which may have to be copied when it is written, or the entry with a number.
-#[derive(Clone, Copy, PartialEq, Eq)]
+#[derive(Clone, Copy)]
 pub enum Plain {
     Empty,
     Page(usize, bool),
