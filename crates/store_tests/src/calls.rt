@@ -12,7 +12,7 @@ use paged_store::PagedStore;
 use word36::Word;
 
 /// What the end of a transfer tells: a page, a frame, that there was none, or that the drum failed.
-#[derive(Clone, Copy, PartialEq, Eq)]
+#[derive(Clone, Copy, PartialEq)]
 pub enum Told {
     Page(Home),
     Frame,
@@ -185,3 +185,6 @@ pub fn keep(store: &mut PagedStore, holder: u16, home: Home) -> bool {
 pub fn evict(store: &mut PagedStore, frame: u32) {
     store.evict(FrameId(frame));
 }
+
+/// A store is dropped. What it is made of is taken apart here alone, for all tests.
+pub fn end_store(_store: PagedStore) {}

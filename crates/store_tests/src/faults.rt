@@ -1,5 +1,5 @@
 // Each call of a drum failing in turn.
-use crate::calls::{Told, ask, bring, complete, evict, is_here, make, put, word_at};
+use crate::calls::{Told, ask, bring, complete, end_store, evict, is_here, make, put, word_at};
 use crate::made::made;
 use crate::same::{same, same_at};
 use outside::{Drum, MemDrum, Memory};
@@ -54,6 +54,7 @@ fn one_call_fails(rt: &impl Abort, alloc: Global, read: u64, write: u64) {
     let mut drum = made(rt, failing_drum(alloc, read, write));
     let mut store = made(rt, PagedStore::boot(alloc, 3, 6));
     let faults = churn(&mut store, &mut drum);
+    end_store(store);
     let failed = 1 <= read && read <= drum.reads() || 1 <= write && write <= drum.writes();
     same_at(rt, read.max(write), faults, Some(u64::from(failed)));
     same_at(rt, read.max(write), drum.faults(), u64::from(failed));
@@ -96,4 +97,5 @@ fn a_transfer_that_failed_is_still_queued(rt: HostRuntime) {
     same(&rt, put(&mut store, Home(0), 5, 5), true);
     leaves_late(&rt, &mut store, &mut drum);
     comes_late(&rt, &mut store, &mut drum);
+    end_store(store);
 }

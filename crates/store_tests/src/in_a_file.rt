@@ -1,5 +1,5 @@
 // Pages whose drum is a file.
-use crate::calls::{Told, ask, complete, evict, is_here, make, put, word_at};
+use crate::calls::{Told, ask, complete, end_store, evict, is_here, make, put, word_at};
 use crate::faults::churn;
 use crate::made::made;
 use crate::same::same;
@@ -10,7 +10,6 @@ use std::alloc::Global;
 use std::fs::{self, File};
 use std::io::{self, Read, Seek, SeekFrom};
 use std::process::Abort;
-use std::test::Fail;
 
 // A new file for a drum.
 fn new_file(rt: &HostRuntime, name: &str) -> io::Result<File> {
@@ -43,19 +42,26 @@ fn sends_all_off<D: Drum>(rt: &impl Abort, alloc: Global, drum: &mut D) {
     for _frame in 0..4 {
         complete(&mut store, drum);
     }
+    end_store(store);
+}
+
+// A word of a file that was read is this.
+fn stands(rt: &impl Abort, read: io::Result<[u8; 8]>, word: u8) {
+    let bytes = read.expect(rt, "a word of a file");
+    same(rt, bytes, [0, 0, 0, 0, 0, 0, 0, word]);
 }
 
 #[test]
-fn pages_stand_in_a_file(rt: HostRuntime) -> Result<(), Fail> {
+fn pages_stand_in_a_file(rt: HostRuntime) {
     let name = "pages_stand_in_a_file.drum";
-    let mut drum = FileDrum::new(new_file(&rt, name)?);
+    let file = new_file(&rt, name).expect(&rt, "a new file");
+    let mut drum = FileDrum::new(file);
     sends_all_off(&rt, rt.alloc(), &mut drum);
     // the last words of a page that left stand in the file at its home
-    for (home, last) in [(0, 0o30), (1, 0o31), (5, 0o35)] {
-        same(&rt, word_in(&rt, name, home)?, [0, 0, 0, 0, 0, 0, 0, last]);
-    }
-    fs::remove_file(&rt, name)?;
-    Ok(())
+    stands(&rt, word_in(&rt, name, 0), 0o30);
+    stands(&rt, word_in(&rt, name, 1), 0o31);
+    stands(&rt, word_in(&rt, name, 5), 0o35);
+    fs::remove_file(&rt, name).expect(&rt, "its end");
 }
 
 // One page leaves the one frame.
@@ -74,17 +80,23 @@ fn does_not_come<D: Drum>(rt: &impl Abort, store: &mut PagedStore, drum: &mut D)
     same(rt, (is_here(store, Home(0)), drum.reads()), (false, 0));
 }
 
+// It comes once the file is long enough again.
+fn comes<D: Drum>(rt: &impl Abort, store: &mut PagedStore, drum: &mut D) {
+    same(rt, complete(store, drum), Told::Page(Home(0)));
+    same(rt, word_at(store, Home(0), 0), Some(3));
+}
+
 #[test]
-fn a_file_that_is_cut_short(rt: HostRuntime) -> Result<(), Fail> {
+fn a_file_that_is_cut_short(rt: HostRuntime) {
     let name = "a_file_that_is_cut_short.drum";
-    let mut drum = FileDrum::new(new_file(&rt, name)?);
+    let file = new_file(&rt, name).expect(&rt, "a new file");
+    let mut drum = FileDrum::new(file);
     let mut store = made(&rt, PagedStore::boot(rt.alloc(), 1, 2));
     sends_one_off(&rt, &mut store, &mut drum);
-    set_length(&rt, name, 8)?;
+    set_length(&rt, name, 8).expect(&rt, "a short file");
     does_not_come(&rt, &mut store, &mut drum);
-    set_length(&rt, name, 4096)?;
-    same(&rt, complete(&mut store, &mut drum), Told::Page(Home(0)));
-    same(&rt, word_at(&store, Home(0), 0), Some(3));
-    fs::remove_file(&rt, name)?;
-    Ok(())
+    set_length(&rt, name, 4096).expect(&rt, "a longer file");
+    comes(&rt, &mut store, &mut drum);
+    end_store(store);
+    fs::remove_file(&rt, name).expect(&rt, "its end");
 }

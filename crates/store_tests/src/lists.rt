@@ -1,6 +1,7 @@
 // Calls by chance, against a plain list of words.
 use crate::calls::{
-    ask, bring, cancelled, complete, copy, evict, free, keep, load, make, put, used, word_at,
+    ask, bring, cancelled, complete, copy, end_store, evict, free, keep, load, make, put, used,
+    word_at,
 };
 use crate::made::made;
 use crate::same::same_at;
@@ -94,6 +95,21 @@ fn agrees(rt: &impl Abort, call: u64, store: &PagedStore, words: &[Option<u64>; 
     }
 }
 
+// Calls by chance, behind each of which the store has what the list has.
+fn goes_on<D: Drum>(
+    rt: &impl Abort,
+    store: &mut PagedStore,
+    drum: &mut D,
+    words: &mut [Option<u64>; HOMES],
+) {
+    let mut chance = 1966;
+    for call in 0..20000 {
+        chance = next(chance);
+        step(store, drum, words, chance);
+        agrees(rt, call, store, words);
+    }
+}
+
 // Each page that is taken comes into a frame, and has the word of the list.
 fn all_come<D: Drum>(
     rt: &impl Abort,
@@ -115,12 +131,8 @@ fn a_store_is_a_list_of_pages(rt: HostRuntime) {
     let mut drum = made(&rt, SureDrum::new(rt.alloc(), MOST_HOMES));
     let mut store = made(&rt, PagedStore::boot(rt.alloc(), 5, HOMES as u32));
     let mut words = [None; HOMES];
-    let mut chance = 1966;
-    for call in 0..20000 {
-        chance = next(chance);
-        step(&mut store, &mut drum, &mut words, chance);
-        agrees(&rt, call, &store, &words);
-    }
+    goes_on(&rt, &mut store, &mut drum, &mut words);
     store.let_go(CONSOLE_HOLDER);
     all_come(&rt, &mut store, &mut drum, &words);
+    end_store(store);
 }

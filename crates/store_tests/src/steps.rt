@@ -1,7 +1,7 @@
 // Pages that come and go, step by step, over a drum in memory.
 use crate::calls::{
-    Told, ask, cancelled, complete, copy, evict, free, is_away, is_here, keep, load, make, put,
-    used, word_at,
+    Told, ask, cancelled, complete, copy, end_store, evict, free, is_away, is_here, keep, load,
+    make, put, used, word_at,
 };
 use crate::made::made;
 use crate::same::same;
@@ -93,6 +93,7 @@ fn pages_come_and_go(rt: HostRuntime) {
     stays_once_used(&rt, &mut store, &mut drum);
     comes_back(&rt, &mut store, &mut drum);
     is_given_up(&rt, &mut store, &mut drum);
+    end_store(store);
 }
 
 // The first of three pages is held for the console. Of no fork can pages be held here.
@@ -125,23 +126,30 @@ fn others_leave<D: Drum>(rt: &impl Abort, store: &mut PagedStore, drum: &mut D) 
     );
 }
 
+// Once it is held no more, it leaves.
+fn leaves_too<D: Drum>(rt: &impl Abort, store: &mut PagedStore, drum: &mut D) {
+    store.let_go(CONSOLE_HOLDER);
+    same(rt, store.held(CONSOLE_HOLDER), 0);
+    evict(store, 0);
+    same(rt, complete(store, drum), Told::Frame);
+    same(rt, is_away(store, Home(0)), true);
+}
+
 #[test]
 fn what_is_held_stays(rt: HostRuntime) {
     let mut drum = made(&rt, SureDrum::new(rt.alloc(), MOST_HOMES));
     let mut store = made(&rt, PagedStore::boot(rt.alloc(), 3, 8));
     holds_one(&rt, &mut store);
     others_leave(&rt, &mut store, &mut drum);
-    store.let_go(CONSOLE_HOLDER);
-    same(&rt, store.held(CONSOLE_HOLDER), 0);
-    evict(&mut store, 0);
-    same(&rt, complete(&mut store, &mut drum), Told::Frame);
-    same(&rt, is_away(&store, Home(0)), true);
+    leaves_too(&rt, &mut store, &mut drum);
+    end_store(store);
 }
 
 // So many forks may have their pages in so many frames.
 fn has_members(rt: &impl Abort, alloc: Global, frames: u32, members: u32) {
     let store = made(rt, PagedStore::boot(alloc, frames, 1));
     same(rt, store.members(), members);
+    end_store(store);
 }
 
 // For a fork 128 pages can be held, for the console 16.
@@ -157,11 +165,14 @@ fn holds_many(rt: &impl Abort, store: &mut PagedStore) {
 
 #[test]
 fn forks_that_may_have_pages_in_core(rt: HostRuntime) {
-    for (frames, members) in [(8, 0), (159, 0), (160, 1), (287, 1), (288, 2)] {
-        has_members(&rt, rt.alloc(), frames, members);
-    }
+    has_members(&rt, rt.alloc(), 8, 0);
+    has_members(&rt, rt.alloc(), 159, 0);
+    has_members(&rt, rt.alloc(), 160, 1);
+    has_members(&rt, rt.alloc(), 287, 1);
+    has_members(&rt, rt.alloc(), 288, 2);
     let mut store = made(&rt, PagedStore::boot(rt.alloc(), 160, 200));
     holds_many(&rt, &mut store);
     free(&mut store, Home(3));
     same(&rt, (store.held(0), store.held(CONSOLE_HOLDER)), (127, 15));
+    end_store(store);
 }
