@@ -3,6 +3,7 @@ use crate::made::made;
 use crate::same::same;
 use file_dir::{Dir, read_name};
 use machine_names::{DirName, FileName, FileNo};
+use std::process::Abort;
 
 const SMITH: &[u8] = b"SMITH";
 
@@ -47,55 +48,66 @@ fn after(dir: &Dir, of: &DirName, text: &[u8]) -> Option<Option<FileNo>> {
     Some(dir.list(of, Some(f)))
 }
 
-#[test]
-fn names_are_read(rt: HostRuntime) {
-    let full: [(&[u8], &[u8]); 12] = [
-        (b"HELLO.SAV", b"<SMITH>HELLO.SAV"),
-        (b"hello.sav", b"<SMITH>HELLO.SAV"),
-        (b"HELLO", b"<SMITH>HELLO."),
-        (b"HELLO.", b"<SMITH>HELLO."),
-        (b"<a-1>b.c", b"<A-1>B.C"),
-        (b"<A>B", b"<A>B."),
-        (b"A-.B", b"<SMITH>A-.B"),
-        (b"-.-", b"<SMITH>-.-"),
-        (b"0.9", b"<SMITH>0.9"),
-        (b"<ABCDEFGHIJKL>Z.", b"<ABCDEFGHIJKL>Z."),
-        (
-            b"0123456789012345678901234567890",
-            b"<SMITH>0123456789012345678901234567890.",
-        ),
-        (
-            b"<ABCDEFGHIJKL>0123456789-0123456789.EXT",
-            b"<ABCDEFGHIJKL>0123456789-0123456789.EXT",
-        ),
-    ];
-    for (text, name) in full {
-        assert!(rt; read(text).is_some_and(|n| n.as_slice() == name));
+// Texts, and the full names of the files that they name.
+const FULL: [(&[u8], &[u8]); 12] = [
+    (b"HELLO.SAV", b"<SMITH>HELLO.SAV"),
+    (b"hello.sav", b"<SMITH>HELLO.SAV"),
+    (b"HELLO", b"<SMITH>HELLO."),
+    (b"HELLO.", b"<SMITH>HELLO."),
+    (b"<a-1>b.c", b"<A-1>B.C"),
+    (b"<A>B", b"<A>B."),
+    (b"A-.B", b"<SMITH>A-.B"),
+    (b"-.-", b"<SMITH>-.-"),
+    (b"0.9", b"<SMITH>0.9"),
+    (b"<ABCDEFGHIJKL>Z.", b"<ABCDEFGHIJKL>Z."),
+    (
+        b"0123456789012345678901234567890",
+        b"<SMITH>0123456789012345678901234567890.",
+    ),
+    (
+        b"<ABCDEFGHIJKL>0123456789-0123456789.EXT",
+        b"<ABCDEFGHIJKL>0123456789-0123456789.EXT",
+    ),
+];
+
+// A text names the file with this full name.
+fn names(rt: &impl Abort, text: &[u8], full: &[u8]) {
+    match read(text) {
+        Some(name) => same(rt, name.as_slice(), full),
+        None => panic!(rt; "no name"),
     }
 }
 
 #[test]
+fn names_are_read(rt: HostRuntime) {
+    for &(text, full) in &FULL {
+        names(&rt, text, full);
+    }
+}
+
+const NONE: [&[u8]; 16] = [
+    b"",
+    b".",
+    b".SAV",
+    b"<A>",
+    b"<A>.B",
+    b"<>A.B",
+    b"<A",
+    b"A>B",
+    b"<A>B>C",
+    b"<A><B>C",
+    b"A.B.C",
+    b"A B",
+    b"A_B",
+    b"<ABCDEFGHIJKLM>A.",
+    b"01234567890123456789012345678901",
+    b"<ABCDEFGHIJKL>0123456789-0123456789.EXTX",
+];
+
+#[test]
 fn other_texts_name_nothing(rt: HostRuntime) {
-    let none: [&[u8]; 16] = [
-        b"",
-        b".",
-        b".SAV",
-        b"<A>",
-        b"<A>.B",
-        b"<>A.B",
-        b"<A",
-        b"A>B",
-        b"<A>B>C",
-        b"<A><B>C",
-        b"A.B.C",
-        b"A B",
-        b"A_B",
-        b"<ABCDEFGHIJKLM>A.",
-        b"01234567890123456789012345678901",
-        b"<ABCDEFGHIJKL>0123456789-0123456789.EXTX",
-    ];
-    for text in none {
-        assert!(rt; read(text).is_none());
+    for &text in &NONE {
+        same(&rt, read(text).is_none(), true);
     }
 }
 
@@ -117,42 +129,58 @@ fn files_are_made_and_deleted(rt: HostRuntime) {
     same(&rt, created(&mut dir, b"D"), Some(FileNo(1)));
 }
 
+// Files of a directory and of two others.
+fn are_made(rt: &impl Abort, dir: &mut Dir) {
+    same(rt, created(dir, b"A.B"), Some(FileNo(0)));
+    same(rt, created(dir, b"<SMITHS>A"), Some(FileNo(1)));
+    same(rt, created(dir, b"<SMIT>Z"), Some(FileNo(2)));
+    same(rt, created(dir, b"AB"), Some(FileNo(3)));
+    same(rt, created(dir, b"A-.B"), Some(FileNo(4)));
+}
+
+// Those of the directory come one after another.
+fn are_listed(rt: &impl Abort, dir: &Dir, smith: &DirName) {
+    same(rt, dir.list(smith, None), Some(FileNo(4)));
+    same(rt, after(dir, smith, b"A-.B"), Some(Some(FileNo(0))));
+    same(rt, after(dir, smith, b"A.B"), Some(Some(FileNo(3))));
+    same(rt, after(dir, smith, b"AB"), Some(None));
+    same(rt, after(dir, smith, b"<SMIT>Z"), Some(Some(FileNo(4))));
+    same(rt, after(dir, smith, b"<SMITHS>A"), Some(None));
+}
+
 #[test]
 fn a_directory_is_listed_in_order(rt: HostRuntime) {
     let mut dir = made(&rt, Dir::boot(rt.alloc()));
     let smith = DirName::new(SMITH);
     same(&rt, dir.list(&smith, None), None);
-    same(&rt, created(&mut dir, b"A.B"), Some(FileNo(0)));
-    same(&rt, created(&mut dir, b"<SMITHS>A"), Some(FileNo(1)));
-    same(&rt, created(&mut dir, b"<SMIT>Z"), Some(FileNo(2)));
-    same(&rt, created(&mut dir, b"AB"), Some(FileNo(3)));
-    same(&rt, created(&mut dir, b"A-.B"), Some(FileNo(4)));
-    same(&rt, dir.list(&smith, None), Some(FileNo(4)));
-    same(&rt, after(&dir, &smith, b"A-.B"), Some(Some(FileNo(0))));
-    same(&rt, after(&dir, &smith, b"A.B"), Some(Some(FileNo(3))));
-    same(&rt, after(&dir, &smith, b"AB"), Some(None));
-    same(&rt, after(&dir, &smith, b"<SMIT>Z"), Some(Some(FileNo(4))));
-    same(&rt, after(&dir, &smith, b"<SMITHS>A"), Some(None));
-    same(
-        &rt,
-        after(&dir, &DirName::new(b"SMIT"), b"<SMIT>Z"),
-        Some(None),
-    );
+    are_made(&rt, &mut dir);
+    are_listed(&rt, &dir, &smith);
+    let smit = DirName::new(b"SMIT");
+    same(&rt, after(&dir, &smit, b"<SMIT>Z"), Some(None));
     same(&rt, dir.list(&DirName::new(b"SMI"), None), None);
+}
+
+/// Three letters, others for each number below 512.
+pub fn letters(n: u16) -> [u8; 3] {
+    [
+        b'A' + (n % 8) as u8,
+        b'A' + (n / 8 % 8) as u8,
+        b'A' + (n / 64 % 8) as u8,
+    ]
+}
+
+// There are 512 files, and there is not one more.
+fn are_full(rt: &impl Abort, dir: &mut Dir) {
+    for n in 0..512 {
+        same(rt, created(dir, &letters(n)), Some(FileNo(n)));
+    }
+    same(rt, created(dir, b"ONE-MORE"), None);
 }
 
 #[test]
 fn there_are_512_files_at_most(rt: HostRuntime) {
     let mut dir = made(&rt, Dir::boot(rt.alloc()));
-    for n in 0..512u16 {
-        let name = [
-            b'A' + (n % 8) as u8,
-            b'A' + (n / 8 % 8) as u8,
-            b'A' + (n / 64) as u8,
-        ];
-        same(&rt, created(&mut dir, &name), Some(FileNo(n)));
-    }
-    same(&rt, created(&mut dir, b"ONE-MORE"), None);
+    are_full(&rt, &mut dir);
     same(&rt, found(&dir, b"HHH"), Some(FileNo(511)));
     same(&rt, deleted(&mut dir, b"BAA"), true);
     same(&rt, created(&mut dir, b"ONE-MORE"), Some(FileNo(1)));

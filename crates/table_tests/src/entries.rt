@@ -1,8 +1,11 @@
 // The entries of maps as words.
+ghost use Rattle.share_table.specs.Pointers.{IsPointer};
+
 use crate::same::{same, same_at};
 use machine_names::Access;
 use page_homes::Home;
 use share_table::{Pointer, Share, decode, encode};
+use std::process::Abort;
 use word36::Word;
 
 // What the letters say.
@@ -15,31 +18,45 @@ fn access(text: &str) -> Access {
     }
 }
 
+// An entry has this word, and no other entry has it.
+fn has(rt: &impl Abort, pointer: Pointer, word: u64)
+    requires { IsPointer pointer }
+{
+    same_at(rt, word, encode(pointer).value(), word);
+    same_at(rt, word, decode(Word::wrapped(word)), Some(pointer));
+}
+
 #[test]
 fn entries_and_their_words(rt: HostRuntime) {
-    for (pointer, word) in [
-        (Pointer::Empty, 0o000000000000),
-        (Pointer::Private(Home(0), access("")), 0o200000000000),
-        (Pointer::Private(Home(0o1234), access("RW")), 0o340000001234),
-        (
-            Pointer::Private(Home(0o37777), access("RWXC")),
-            0o370000037777,
-        ),
-        (Pointer::Shared(Share(5), access("R")), 0o500000000005),
-        (
-            Pointer::Shared(Share(0o37777), access("XC")),
-            0o430000037777,
-        ),
-        (Pointer::Indirect(1, 0, access("W")), 0o640000000001),
-        (
-            Pointer::Indirect(0o777777, 0o777, access("RXC")),
-            0o730777777777,
-        ),
-        (Pointer::Indirect(0o17, 0o5, access("C")), 0o610005000017),
-    ] {
-        same_at(&rt, word, encode(pointer).value(), word);
-        same_at(&rt, word, decode(Word::wrapped(word)), Some(pointer));
-    }
+    has(&rt, Pointer::Empty, 0o000000000000);
+    has(&rt, Pointer::Private(Home(0), access("")), 0o200000000000);
+    has(
+        &rt,
+        Pointer::Private(Home(0o1234), access("RW")),
+        0o340000001234,
+    );
+    has(
+        &rt,
+        Pointer::Private(Home(0o37777), access("RWXC")),
+        0o370000037777,
+    );
+    has(&rt, Pointer::Shared(Share(5), access("R")), 0o500000000005);
+    has(
+        &rt,
+        Pointer::Shared(Share(0o37777), access("XC")),
+        0o430000037777,
+    );
+    has(&rt, Pointer::Indirect(1, 0, access("W")), 0o640000000001);
+    has(
+        &rt,
+        Pointer::Indirect(0o777777, 0o777, access("RXC")),
+        0o730777777777,
+    );
+    has(
+        &rt,
+        Pointer::Indirect(0o17, 0o5, access("C")),
+        0o610005000017,
+    );
 }
 
 #[test]

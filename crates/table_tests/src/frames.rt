@@ -3,6 +3,7 @@ use crate::made::made;
 use crate::same::same;
 use frame_table::{Frames, MOST_HOLDS, MOST_PINS};
 use page_homes::{FrameId, Home, MOST_HOMES};
+use std::process::Abort;
 
 // A frame for the page of a home that is in none.
 fn assign(frames: &mut Frames, home: Home) -> Option<FrameId> {
@@ -68,73 +69,134 @@ fn seen_while_held(frames: &mut Frames, f: FrameId) -> Option<(Option<FrameId>, 
     Some(seen)
 }
 
-#[test]
-fn frames_are_taken_and_free(rt: HostRuntime) {
-    let mut frames = made(&rt, Frames::boot(rt.alloc(), 3));
+// The frames are let go. What they are made of is taken apart here alone, for all tests.
+fn let_go(_frames: Frames) {}
+
+// The frames are taken one after another, until none is free.
+fn are_taken(rt: &impl Abort, frames: &mut Frames) {
     same(
-        &rt,
+        rt,
         (frames.len(), frames.free_frames(), frames.victim()),
         (3, 3, None),
     );
-    same(&rt, assign(&mut frames, Home(70)), Some(FrameId(0)));
-    same(&rt, assign(&mut frames, Home(50)), Some(FrameId(1)));
-    same(&rt, assign(&mut frames, Home(60)), Some(FrameId(2)));
+    same(rt, assign(frames, Home(70)), Some(FrameId(0)));
+    same(rt, assign(frames, Home(50)), Some(FrameId(1)));
+    same(rt, assign(frames, Home(60)), Some(FrameId(2)));
     same(
-        &rt,
-        (assign(&mut frames, Home(40)), frames.free_frames()),
+        rt,
+        (assign(frames, Home(40)), frames.free_frames()),
         (None, 0),
     );
     same(
-        &rt,
+        rt,
         (frames.frame_of(Home(50)), frames.frame_of(Home(40))),
         (Some(FrameId(1)), None),
     );
-    same(&rt, home_of(&frames, FrameId(2)), Some(Home(60)));
-    free(&mut frames, FrameId(1));
-    free(&mut frames, FrameId(0));
+    same(rt, home_of(frames, FrameId(2)), Some(Home(60)));
+}
+
+// Those that are made free are taken again.
+fn are_freed(rt: &impl Abort, frames: &mut Frames) {
+    free(frames, FrameId(1));
+    free(frames, FrameId(0));
     same(
-        &rt,
+        rt,
         (frames.free_frames(), frames.frame_of(Home(50))),
         (2, None),
     );
-    same(&rt, home_of(&frames, FrameId(1)), None);
-    free(&mut frames, FrameId(1));
-    same(&rt, frames.free_frames(), 2);
-    same(&rt, assign(&mut frames, Home(40)), Some(FrameId(0)));
-    same(&rt, assign(&mut frames, Home(50)), Some(FrameId(1)));
-    same(&rt, frames.victim(), Some(FrameId(2)));
+    same(rt, home_of(frames, FrameId(1)), None);
+    free(frames, FrameId(1));
+    same(rt, frames.free_frames(), 2);
+    same(rt, assign(frames, Home(40)), Some(FrameId(0)));
+    same(rt, assign(frames, Home(50)), Some(FrameId(1)));
+    same(rt, frames.victim(), Some(FrameId(2)));
+}
+
+#[test]
+fn frames_are_taken_and_free(rt: HostRuntime) {
+    let mut frames = made(&rt, Frames::boot(rt.alloc(), 3));
+    are_taken(&rt, &mut frames);
+    are_freed(&rt, &mut frames);
+    let_go(frames);
+}
+
+// Pages of three homes take frames.
+fn assign_three(frames: &mut Frames, first: Home, second: Home, third: Home) {
+    let _ = assign(frames, first);
+    let _ = assign(frames, second);
+    let _ = assign(frames, third);
+}
+
+// What was used, is transferred or is pinned does not go first.
+fn are_kept(rt: &impl Abort, frames: &mut Frames) {
+    same(rt, frames.victim(), Some(FrameId(0)));
+    touch_age(frames, FrameId(0));
+    same(rt, frames.victim(), Some(FrameId(1)));
+    set_transfer(frames, FrameId(1), true);
+    same(rt, frames.victim(), Some(FrameId(2)));
+    pin(frames, FrameId(2));
+    pin(frames, FrameId(2));
+    same(rt, frames.victim(), Some(FrameId(0)));
+}
+
+// A frame that is pinned isn't made free, and one that is held doesn't go. A free frame isn't held.
+fn are_held(rt: &impl Abort, frames: &mut Frames) {
+    free(frames, FrameId(2));
+    same(rt, home_of(frames, FrameId(2)), Some(Home(7)));
+    same(rt, seen_while_held(frames, FrameId(0)), Some((None, 1)));
+    same(rt, seen_while_held(frames, FrameId(3)), None);
+    same(rt, frames.victim(), Some(FrameId(0)));
+}
+
+// With its last pin, and at the end of its transfer, a frame may go again.
+fn are_released(rt: &impl Abort, frames: &mut Frames) {
+    unpin(frames, FrameId(2));
+    same(rt, frames.victim(), Some(FrameId(0)));
+    unpin(frames, FrameId(2));
+    same(rt, frames.victim(), Some(FrameId(2)));
+    set_transfer(frames, FrameId(1), false);
+    touch_age(frames, FrameId(3));
+    same(rt, frames.victim(), Some(FrameId(1)));
 }
 
 #[test]
 fn the_oldest_use_goes_first(rt: HostRuntime) {
     let mut frames = made(&rt, Frames::boot(rt.alloc(), 4));
-    for home in [Home(9), Home(8), Home(7)] {
-        let _ = assign(&mut frames, home);
+    assign_three(&mut frames, Home(9), Home(8), Home(7));
+    are_kept(&rt, &mut frames);
+    are_held(&rt, &mut frames);
+    are_released(&rt, &mut frames);
+    let_go(frames);
+}
+
+// Frames are used, which changes who goes next.
+fn are_used(rt: &impl Abort, frames: &mut Frames) {
+    touch_age(frames, FrameId(1));
+    same(rt, frames.victim(), Some(FrameId(0)));
+    touch_age(frames, FrameId(2));
+    touch_age(frames, FrameId(0));
+    same(rt, frames.victim(), Some(FrameId(1)));
+}
+
+// A look changes nothing, however often.
+fn are_looked_at(rt: &impl Abort, frames: &mut Frames) {
+    for _look in 0..4 {
+        frames.look_for_victim();
+        same(rt, frames.victim(), Some(FrameId(1)));
     }
-    same(&rt, frames.victim(), Some(FrameId(0)));
-    touch_age(&mut frames, FrameId(0));
-    same(&rt, frames.victim(), Some(FrameId(1)));
-    set_transfer(&mut frames, FrameId(1), true);
-    same(&rt, frames.victim(), Some(FrameId(2)));
-    pin(&mut frames, FrameId(2));
-    pin(&mut frames, FrameId(2));
-    same(&rt, frames.victim(), Some(FrameId(0)));
-    free(&mut frames, FrameId(2));
-    same(&rt, home_of(&frames, FrameId(2)), Some(Home(7)));
-    same(
-        &rt,
-        seen_while_held(&mut frames, FrameId(0)),
-        Some((None, 1)),
-    );
-    same(&rt, seen_while_held(&mut frames, FrameId(3)), None);
-    same(&rt, frames.victim(), Some(FrameId(0)));
-    unpin(&mut frames, FrameId(2));
-    same(&rt, frames.victim(), Some(FrameId(0)));
-    unpin(&mut frames, FrameId(2));
-    same(&rt, frames.victim(), Some(FrameId(2)));
-    set_transfer(&mut frames, FrameId(1), false);
-    touch_age(&mut frames, FrameId(3));
-    same(&rt, frames.victim(), Some(FrameId(1)));
+}
+
+// Nor does it while a frame can't go, or is free.
+fn are_passed_by(rt: &impl Abort, frames: &mut Frames) {
+    set_transfer(frames, FrameId(1), true);
+    same(rt, frames.victim(), Some(FrameId(2)));
+    frames.look_for_victim();
+    same(rt, frames.victim(), Some(FrameId(2)));
+    set_transfer(frames, FrameId(1), false);
+    same(rt, frames.victim(), Some(FrameId(1)));
+    free(frames, FrameId(1));
+    frames.look_for_victim();
+    same(rt, frames.victim(), Some(FrameId(2)));
 }
 
 #[test]
@@ -142,27 +204,11 @@ fn a_look_for_the_victim_finds_who_was_used(rt: HostRuntime) {
     let mut frames = made(&rt, Frames::boot(rt.alloc(), 3));
     frames.look_for_victim();
     same(&rt, frames.victim(), None);
-    for home in [Home(1), Home(2), Home(3)] {
-        let _ = assign(&mut frames, home);
-    }
-    touch_age(&mut frames, FrameId(1));
-    same(&rt, frames.victim(), Some(FrameId(0)));
-    touch_age(&mut frames, FrameId(2));
-    touch_age(&mut frames, FrameId(0));
-    same(&rt, frames.victim(), Some(FrameId(1)));
-    for _look in 0..4 {
-        frames.look_for_victim();
-        same(&rt, frames.victim(), Some(FrameId(1)));
-    }
-    set_transfer(&mut frames, FrameId(1), true);
-    same(&rt, frames.victim(), Some(FrameId(2)));
-    frames.look_for_victim();
-    same(&rt, frames.victim(), Some(FrameId(2)));
-    set_transfer(&mut frames, FrameId(1), false);
-    same(&rt, frames.victim(), Some(FrameId(1)));
-    free(&mut frames, FrameId(1));
-    frames.look_for_victim();
-    same(&rt, frames.victim(), Some(FrameId(2)));
+    assign_three(&mut frames, Home(1), Home(2), Home(3));
+    are_used(&rt, &mut frames);
+    are_looked_at(&rt, &mut frames);
+    are_passed_by(&rt, &mut frames);
+    let_go(frames);
 }
 
 #[test]
@@ -178,4 +224,5 @@ fn words_are_read_and_changed(rt: HostRuntime) {
     );
     same(&rt, frames.words(&hold)[511], 0o777777);
     frames.release(hold);
+    let_go(frames);
 }

@@ -9,6 +9,7 @@ use crate::same::same;
 use jfn_table::{Jfns, JfnsFull, JobJfns};
 use machine_names::{FileNo, MOST_FILES, TERMINALS, Tty};
 use plain_files::Mode;
+use std::process::Abort;
 
 const READ: Mode = Mode { r: true, w: false };
 
@@ -58,24 +59,34 @@ fn moved(jfns: &mut Jfns, n: u32) -> bool {
     open
 }
 
+// Three JFNs are taken, for two files.
+fn are_taken(rt: &impl Abort, jfns: &mut Jfns) {
+    same(rt, seen(jfns, 0), None);
+    same(rt, seen(jfns, 1), None);
+    same(rt, jfns.take(FileNo(511)), Ok(1));
+    same(rt, jfns.take(FileNo(0)), Ok(2));
+    same(rt, jfns.take(FileNo(511)), Ok(3));
+    same(rt, jfns.names(FileNo(511)), 2);
+    same(rt, jfns.names(FileNo(0)), 1);
+    same(rt, jfns.names(FileNo(1)), 0);
+}
+
+// The number of one that is released is taken again.
+fn are_released(rt: &impl Abort, jfns: &mut Jfns) {
+    same(rt, released(jfns, 1), true);
+    same(rt, jfns.names(FileNo(511)), 1);
+    same(rt, seen(jfns, 1), None);
+    same(rt, seen(jfns, 3), closed(511));
+    same(rt, jfns.take(FileNo(7)), Ok(1));
+    same(rt, jfns.take(FileNo(8)), Ok(4));
+    same(rt, seen(jfns, 4294967295), None);
+}
+
 #[test]
 fn the_least_free_number_is_taken(rt: HostRuntime) {
     let mut jfns = made(&rt, Jfns::boot(rt.alloc()));
-    same(&rt, seen(&jfns, 0), None);
-    same(&rt, seen(&jfns, 1), None);
-    same(&rt, jfns.take(FileNo(511)), Ok(1));
-    same(&rt, jfns.take(FileNo(0)), Ok(2));
-    same(&rt, jfns.take(FileNo(511)), Ok(3));
-    same(&rt, jfns.names(FileNo(511)), 2);
-    same(&rt, jfns.names(FileNo(0)), 1);
-    same(&rt, jfns.names(FileNo(1)), 0);
-    same(&rt, released(&mut jfns, 1), true);
-    same(&rt, jfns.names(FileNo(511)), 1);
-    same(&rt, seen(&jfns, 1), None);
-    same(&rt, seen(&jfns, 3), closed(511));
-    same(&rt, jfns.take(FileNo(7)), Ok(1));
-    same(&rt, jfns.take(FileNo(8)), Ok(4));
-    same(&rt, seen(&jfns, 4294967295), None);
+    are_taken(&rt, &mut jfns);
+    are_released(&rt, &mut jfns);
 }
 
 #[test]

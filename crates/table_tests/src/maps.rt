@@ -148,74 +148,105 @@ fn name_seen(rt: &impl Abort, seen: Seen) -> PageName {
     }
 }
 
-#[test]
-fn chains_over_maps_in_pages(rt: HostRuntime) {
-    let mut store = made(&rt, FlatStore::boot(rt.alloc(), 8));
-    let mut tables = made(&rt, MapTables::boot(rt.alloc(), 8));
-    same(&rt, walk(&store, &tables, fifth(1)), Walked::NoChain);
-    add(&rt, &mut store, &mut tables, fork(1), None);
-    let empty = way(&rt, &store, &tables, fifth(1));
-    same(&rt, empty.home, None);
+// An entry of an empty map leads to no page, with every right.
+fn is_empty<S: Store>(rt: &impl Abort, store: &S, tables: &MapTables)
+    requires { AreRooted (tables_of tables.now) (map is_taken (S.means.homes store.now)) }
+{
+    let empty = way(rt, store, tables, fifth(1));
+    same(rt, empty.home, None);
     same(
-        &rt,
+        rt,
         (empty.reads, empty.writes, empty.executes),
         (true, true, true),
     );
+}
 
-    // R and W
-    let name = PageName {
-        tty: Tty(1),
-        serial: 9,
-    };
-    let home = page(&rt, &mut store, &mut tables, name);
-    put(
-        &rt,
-        &mut store,
-        &tables,
-        fifth(1),
-        0o340000000000 + u64::from(home.0),
-    );
-    let named = way(&rt, &store, &tables, fifth(1));
+const NAME: PageName = PageName {
+    tty: Tty(1),
+    serial: 9,
+};
+
+// A page is named, by an entry with R and W.
+fn is_named<S: Store>(rt: &impl Abort, store: &mut S, tables: &mut MapTables) -> Home
+    requires { AreRooted (tables_of tables.old) (map is_taken (S.means.homes store.old)) }
+    ensures { AreRooted (tables_of tables.new) (map is_taken (S.means.homes store.new)) }
+{
+    let home = page(rt, store, tables, NAME);
+    let word = 0o340000000000 + u64::from(home.0);
+    put(rt, store, tables, fifth(1), word);
+    let named = way(rt, store, tables, fifth(1));
     same(
-        &rt,
+        rt,
         (named.end, named.home, named.copy),
         (fifth(1), Some(home), None),
     );
     same(
-        &rt,
+        rt,
         (named.reads, named.writes, named.executes),
         (true, true, false),
     );
-    let got = name_seen(&rt, seen(&store, &tables, fifth(1)));
-    same(&rt, (got.tty.0, got.serial), (1, 9));
+    let got = name_seen(rt, seen(store, tables, fifth(1)));
+    same(rt, (got.tty.0, got.serial), (1, 9));
+    home
+}
 
-    // four entries, and five
-    add(&rt, &mut store, &mut tables, fork(2), Some(fork(1)));
-    add(&rt, &mut store, &mut tables, fork(3), Some(fork(2)));
-    add(&rt, &mut store, &mut tables, fork(4), Some(fork(3)));
-    add(&rt, &mut store, &mut tables, fork(5), Some(fork(4)));
-    let fourth = way(&rt, &store, &tables, fifth(4));
+// It stands at the end of four entries, and of no five.
+fn is_followed<S: Store>(rt: &impl Abort, store: &mut S, tables: &mut MapTables, home: Home)
+    requires { AreRooted (tables_of tables.old) (map is_taken (S.means.homes store.old)) }
+    ensures { AreRooted (tables_of tables.new) (map is_taken (S.means.homes store.new)) }
+{
+    add(rt, store, tables, fork(2), Some(fork(1)));
+    add(rt, store, tables, fork(3), Some(fork(2)));
+    add(rt, store, tables, fork(4), Some(fork(3)));
+    add(rt, store, tables, fork(5), Some(fork(4)));
+    let fourth = way(rt, store, tables, fifth(4));
     same(
-        &rt,
+        rt,
         (fourth.end, fourth.home, fourth.copy),
         (fifth(1), Some(home), None),
     );
-    same(&rt, walk(&store, &tables, fifth(5)), Walked::NoChain);
+    same(rt, walk(store, tables, fifth(5)), Walked::NoChain);
+}
 
-    // R and the copy mark, of page 5 of fork 1
-    put(&rt, &mut store, &tables, fifth(2), 0o710005000001);
-    let copied = walk(&store, &tables, fifth(3));
-    same(&rt, copied.permits(Kind::Read), true);
-    same(&rt, copied.permits(Kind::Write), true);
-    same(&rt, copied.permits(Kind::Execute), false);
-    same(
-        &rt,
-        way(&rt, &store, &tables, fifth(3)).copy,
-        Some(fifth(2)),
-    );
+// An entry on the way has R and the copy mark, of page 5 of fork 1.
+fn is_marked<S: Store>(rt: &impl Abort, store: &mut S, tables: &MapTables)
+    requires { AreRooted (tables_of tables.now) (map is_taken (S.means.homes store.old)) }
+    ensures { AreRooted (tables_of tables.now) (map is_taken (S.means.homes store.new)) }
+{
+    put(rt, store, tables, fifth(2), 0o710005000001);
+    let copied = walk(store, tables, fifth(3));
+    same(rt, copied.permits(Kind::Read), true);
+    same(rt, copied.permits(Kind::Write), true);
+    same(rt, copied.permits(Kind::Execute), false);
+    let marked = way(rt, store, tables, fifth(3));
+    same(rt, marked.copy, Some(fifth(2)));
+}
 
-    // a fork whose map goes, to which the others follow
-    drop_map(&rt, &mut store, &mut tables, fork(1));
-    same(&rt, walk(&store, &tables, fifth(2)), Walked::NoChain);
-    same(&rt, entry(&store, &tables, fifth(1)), Looked::Missing);
+// A fork's map goes, to which the others follow.
+fn is_gone<S: Store>(rt: &impl Abort, store: &mut S, tables: &mut MapTables)
+    requires { AreRooted (tables_of tables.old) (map is_taken (S.means.homes store.old)) }
+{
+    drop_map(rt, store, tables, fork(1));
+    same(rt, walk(store, tables, fifth(2)), Walked::NoChain);
+    same(rt, entry(store, tables, fifth(1)), Looked::Missing);
+}
+
+// Five maps, of which four follow the first, one behind the other.
+fn come_and_go<S: Store>(rt: &impl Abort, store: &mut S, tables: &mut MapTables)
+    requires { AreRooted (tables_of tables.old) (map is_taken (S.means.homes store.old)) }
+{
+    same(rt, walk(store, tables, fifth(1)), Walked::NoChain);
+    add(rt, store, tables, fork(1), None);
+    is_empty(rt, store, tables);
+    let home = is_named(rt, store, tables);
+    is_followed(rt, store, tables, home);
+    is_marked(rt, store, tables);
+    is_gone(rt, store, tables);
+}
+
+#[test]
+fn chains_over_maps_in_pages(rt: HostRuntime) {
+    let mut store = made(&rt, FlatStore::boot(rt.alloc(), 8));
+    let mut tables = made(&rt, MapTables::boot(rt.alloc(), 8));
+    come_and_go(&rt, &mut store, &mut tables);
 }

@@ -2,12 +2,14 @@
 ghost use Rattle.std.specs.Prelude.{◌<◌};
 ghost use Rattle.file_tables.specs.Tables.{IsThere};
 
+use crate::directory::letters;
 use crate::made::made;
 use crate::same::same_at;
 use file_dir::read_name;
 use file_tables::FileTables;
 use machine_names::{DirName, FileName, FileNo, TERMINALS, Tty};
 use plain_files::{LARGEST_BYTE, Mode};
+use std::process::Abort;
 
 const READ: Mode = Mode { r: true, w: false };
 
@@ -141,117 +143,131 @@ fn done(tables: &mut FileTables, deed: Deed) -> Option<u32> {
     }
 }
 
+// The files are let go. What they are made of is taken apart here alone, for all tests.
+fn let_go(_tables: FileTables) {}
+
+// A deed, and what it answers.
+type Row = (Deed, Option<u32>);
+
+// The deeds answer so, one behind the other.
+fn answer_so(rt: &impl Abort, tables: &mut FileTables, rows: &[Row]) {
+    for (row, (deed, answer)) in rows.iter().enumerate() {
+        same_at(rt, row as u64, done(tables, *deed), *answer);
+    }
+}
+
+const COME_AND_GO: [Row; 51] = [
+    (Deed::At(b"A", OfFile::Number), None),
+    (Deed::Make(b"A"), Some(0)),
+    (Deed::Make(b"<SMITH>A."), None),
+    (Deed::Make(b"B"), Some(1)),
+    (Deed::Make(b"C"), Some(2)),
+    (Deed::At(b"C", OfFile::Lengthen), Some(1000)),
+    (Deed::At(b"C", OfFile::Length), Some(1000)),
+    (Deed::At(b"B", OfFile::Length), Some(0)),
+    (Deed::At(b"B", OfFile::Size), Some(36)),
+    (Deed::Free(0), Some(1)),
+    (Deed::Jfn(0, 1, OfJfn::File), None),
+    (Deed::At(b"B", OfFile::Take(0)), Some(1)),
+    (Deed::At(b"B", OfFile::Take(15)), Some(1)),
+    (Deed::At(b"C", OfFile::Take(0)), Some(2)),
+    (Deed::Free(0), Some(3)),
+    (Deed::Free(15), Some(2)),
+    (Deed::Free(7), Some(1)),
+    (Deed::At(b"B", OfFile::Times), Some(2)),
+    (Deed::At(b"A", OfFile::Times), Some(0)),
+    (Deed::At(b"B", OfFile::Delete), None),
+    (Deed::At(b"A", OfFile::Delete), Some(0)),
+    (Deed::At(b"A", OfFile::Number), None),
+    (Deed::At(b"C", OfFile::Number), Some(2)),
+    (Deed::Jfn(0, 2, OfJfn::File), Some(2)),
+    (Deed::Jfn(0, 2, OfJfn::Size), Some(36)),
+    (Deed::Jfn(0, 2, OfJfn::Seek), None),
+    (Deed::Jfn(0, 2, OfJfn::Open), Some(2)),
+    (Deed::Jfn(0, 2, OfJfn::Size), Some(7)),
+    (Deed::Jfn(0, 2, OfJfn::At), Some(0)),
+    (Deed::Jfn(0, 2, OfJfn::Seek), Some(2)),
+    (Deed::Jfn(0, 2, OfJfn::At), Some(1310720)),
+    (Deed::Jfn(0, 1, OfJfn::Size), Some(36)),
+    (Deed::Jfn(15, 1, OfJfn::Release), Some(1)),
+    (Deed::Jfn(15, 1, OfJfn::Release), None),
+    (Deed::At(b"B", OfFile::Times), Some(1)),
+    (Deed::Jfn(0, 1, OfJfn::Release), Some(1)),
+    (Deed::At(b"B", OfFile::Delete), Some(1)),
+    (Deed::Free(0), Some(1)),
+    (Deed::Make(b"D"), Some(0)),
+    (Deed::At(b"D", OfFile::Length), Some(0)),
+    (Deed::At(b"C", OfFile::Length), Some(1000)),
+    (Deed::Make(b"A.B.C"), None),
+    (Deed::At(b"B", OfFile::Take(0)), None),
+    (Deed::At(b"C", OfFile::Take(0)), Some(1)),
+    (Deed::At(b"C", OfFile::Take(4)), Some(1)),
+    (Deed::At(b"C", OfFile::Times), Some(3)),
+    (Deed::Leave(0), Some(0)),
+    (Deed::At(b"C", OfFile::Times), Some(1)),
+    (Deed::Jfn(0, 2, OfJfn::File), None),
+    (Deed::Jfn(4, 1, OfJfn::File), Some(2)),
+    (Deed::Free(0), Some(1)),
+];
+
 #[test]
 fn files_and_jfns_come_and_go(rt: HostRuntime) {
     let mut tables = made(&rt, FileTables::boot(rt.alloc()));
-    let rows: [(Deed, Option<u32>); 51] = [
-        (Deed::At(b"A", OfFile::Number), None),
-        (Deed::Make(b"A"), Some(0)),
-        (Deed::Make(b"<SMITH>A."), None),
-        (Deed::Make(b"B"), Some(1)),
-        (Deed::Make(b"C"), Some(2)),
-        (Deed::At(b"C", OfFile::Lengthen), Some(1000)),
-        (Deed::At(b"C", OfFile::Length), Some(1000)),
-        (Deed::At(b"B", OfFile::Length), Some(0)),
-        (Deed::At(b"B", OfFile::Size), Some(36)),
-        (Deed::Free(0), Some(1)),
-        (Deed::Jfn(0, 1, OfJfn::File), None),
-        (Deed::At(b"B", OfFile::Take(0)), Some(1)),
-        (Deed::At(b"B", OfFile::Take(15)), Some(1)),
-        (Deed::At(b"C", OfFile::Take(0)), Some(2)),
-        (Deed::Free(0), Some(3)),
-        (Deed::Free(15), Some(2)),
-        (Deed::Free(7), Some(1)),
-        (Deed::At(b"B", OfFile::Times), Some(2)),
-        (Deed::At(b"A", OfFile::Times), Some(0)),
-        (Deed::At(b"B", OfFile::Delete), None),
-        (Deed::At(b"A", OfFile::Delete), Some(0)),
-        (Deed::At(b"A", OfFile::Number), None),
-        (Deed::At(b"C", OfFile::Number), Some(2)),
-        (Deed::Jfn(0, 2, OfJfn::File), Some(2)),
-        (Deed::Jfn(0, 2, OfJfn::Size), Some(36)),
-        (Deed::Jfn(0, 2, OfJfn::Seek), None),
-        (Deed::Jfn(0, 2, OfJfn::Open), Some(2)),
-        (Deed::Jfn(0, 2, OfJfn::Size), Some(7)),
-        (Deed::Jfn(0, 2, OfJfn::At), Some(0)),
-        (Deed::Jfn(0, 2, OfJfn::Seek), Some(2)),
-        (Deed::Jfn(0, 2, OfJfn::At), Some(1310720)),
-        (Deed::Jfn(0, 1, OfJfn::Size), Some(36)),
-        (Deed::Jfn(15, 1, OfJfn::Release), Some(1)),
-        (Deed::Jfn(15, 1, OfJfn::Release), None),
-        (Deed::At(b"B", OfFile::Times), Some(1)),
-        (Deed::Jfn(0, 1, OfJfn::Release), Some(1)),
-        (Deed::At(b"B", OfFile::Delete), Some(1)),
-        (Deed::Free(0), Some(1)),
-        (Deed::Make(b"D"), Some(0)),
-        (Deed::At(b"D", OfFile::Length), Some(0)),
-        (Deed::At(b"C", OfFile::Length), Some(1000)),
-        (Deed::Make(b"A.B.C"), None),
-        (Deed::At(b"B", OfFile::Take(0)), None),
-        (Deed::At(b"C", OfFile::Take(0)), Some(1)),
-        (Deed::At(b"C", OfFile::Take(4)), Some(1)),
-        (Deed::At(b"C", OfFile::Times), Some(3)),
-        (Deed::Leave(0), Some(0)),
-        (Deed::At(b"C", OfFile::Times), Some(1)),
-        (Deed::Jfn(0, 2, OfJfn::File), None),
-        (Deed::Jfn(4, 1, OfJfn::File), Some(2)),
-        (Deed::Free(0), Some(1)),
-    ];
-    for (row, (deed, answer)) in rows.into_iter().enumerate() {
-        same_at(&rt, row as u64, done(&mut tables, deed), answer);
+    answer_so(&rt, &mut tables, &COME_AND_GO);
+    let_go(tables);
+}
+
+// Makes the file that a text names, which is found by its name then.
+fn is_found(tables: &mut FileTables, text: &[u8]) -> bool {
+    make(tables, text);
+    match read_name(text, &DirName::new(b"SMITH")) {
+        Some(name) => is_named(tables, name),
+        None => false,
     }
 }
 
 #[test]
 fn a_number_is_that_of_its_name(rt: HostRuntime) {
     let mut tables = made(&rt, FileTables::boot(rt.alloc()));
-    for text in [b"A", b"B"] {
-        make(&mut tables, text);
-        let found = read_name(text, &DirName::new(b"SMITH")).is_some_and(|name| is_named(
-            &tables, name,
-        ));
-        assert!(rt; found);
+    same_at(&rt, 0, is_found(&mut tables, b"A"), true);
+    same_at(&rt, 1, is_found(&mut tables, b"B"), true);
+    let_go(tables);
+}
+
+// There are 512 files, and there is not one more.
+fn are_full(rt: &impl Abort, tables: &mut FileTables) {
+    for n in 0..512 {
+        same_at(
+            rt,
+            u64::from(n),
+            make(tables, &letters(n)),
+            Some(u32::from(n)),
+        );
+    }
+    same_at(rt, 512, make(tables, b"ONE-MORE"), None);
+}
+
+// A job takes twenty JFNs for the last of them.
+fn are_taken(rt: &impl Abort, tables: &mut FileTables) {
+    for n in 1..21 {
+        let taken = done(tables, Deed::At(b"HHH", OfFile::Take(3)));
+        same_at(rt, u64::from(n), taken, Some(n));
     }
 }
+
+// The job takes no more, and another file comes in the place of one that goes.
+const ONE_MORE: [Row; 4] = [
+    (Deed::At(b"HHH", OfFile::Take(3)), None),
+    (Deed::At(b"HHH", OfFile::Times), Some(20)),
+    (Deed::At(b"BAA", OfFile::Delete), Some(1)),
+    (Deed::Make(b"ONE-MORE"), Some(1)),
+];
 
 #[test]
 fn a_job_holds_twenty_and_there_are_512_files(rt: HostRuntime) {
     let mut tables = made(&rt, FileTables::boot(rt.alloc()));
-    for n in 0..512u16 {
-        let name = [
-            b'A' + (n % 8) as u8,
-            b'A' + (n / 8 % 8) as u8,
-            b'A' + (n / 64) as u8,
-        ];
-        same_at(
-            &rt,
-            u64::from(n),
-            make(&mut tables, &name),
-            Some(u32::from(n)),
-        );
-    }
-    same_at(&rt, 512, make(&mut tables, b"ONE-MORE"), None);
-    for n in 1..21u32 {
-        let taken = done(&mut tables, Deed::At(b"HHH", OfFile::Take(3)));
-        same_at(&rt, u64::from(n), taken, Some(n));
-    }
-    same_at(
-        &rt,
-        21,
-        done(&mut tables, Deed::At(b"HHH", OfFile::Take(3))),
-        None,
-    );
-    same_at(
-        &rt,
-        22,
-        done(&mut tables, Deed::At(b"HHH", OfFile::Times)),
-        Some(20),
-    );
-    same_at(
-        &rt,
-        23,
-        done(&mut tables, Deed::At(b"BAA", OfFile::Delete)),
-        Some(1),
-    );
-    same_at(&rt, 24, make(&mut tables, b"ONE-MORE"), Some(1));
+    are_full(&rt, &mut tables);
+    are_taken(&rt, &mut tables);
+    answer_so(&rt, &mut tables, &ONE_MORE);
+    let_go(tables);
 }

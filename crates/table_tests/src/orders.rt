@@ -4,10 +4,16 @@ use crate::same::same;
 use frame_order::FrameOrder;
 use outside::Memory;
 use std::alloc::Global;
+use std::process::Abort;
 
 // The frames of an order from its first one on.
 fn listed(alloc: Global, order: &FrameOrder) -> Result<Vec<u32>, Memory> {
     Ok(order.iter().collect(alloc)?)
+}
+
+// They are these.
+fn has(rt: &impl Abort, alloc: Global, order: &FrameOrder, frames: &[u32]) {
+    same(rt, made(rt, listed(alloc, order)).as_slice(), frames);
 }
 
 #[test]
@@ -19,22 +25,14 @@ fn frames_go_last_and_out(rt: HostRuntime) {
     order.push(0);
     order.push(4);
     order.push(1);
-    same(
-        &rt,
-        made(&rt, listed(alloc, &order)).as_slice(),
-        &[3, 0, 4, 1],
-    );
+    has(&rt, alloc, &order, &[3, 0, 4, 1]);
     same(&rt, order.first(), Some(3));
     order.remove(4);
-    same(&rt, made(&rt, listed(alloc, &order)).as_slice(), &[3, 0, 1]);
+    has(&rt, alloc, &order, &[3, 0, 1]);
     order.remove(3);
     order.push(3);
     order.push(4);
-    same(
-        &rt,
-        made(&rt, listed(alloc, &order)).as_slice(),
-        &[0, 1, 3, 4],
-    );
+    has(&rt, alloc, &order, &[0, 1, 3, 4]);
     order.remove(4);
     order.remove(0);
     order.remove(1);

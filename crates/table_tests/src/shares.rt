@@ -3,6 +3,7 @@ use crate::made::made;
 use crate::same::same;
 use page_homes::Home;
 use share_table::{MOST_SHARES, Share, ShareTable};
+use std::process::Abort;
 
 // A new share, while there is room for one.
 fn share(table: &mut ShareTable, home: Home) -> Option<Share> {
@@ -34,38 +35,51 @@ fn shared(table: &ShareTable, s: Share) -> Option<(Home, u32)> {
     }
 }
 
+const FIRST: Share = Share(0);
+
+const SECOND: Share = Share(1);
+
+// Two homes get shares, and no third. A share has as many names as joined it.
+fn are_shared(rt: &impl Abort, table: &mut ShareTable) {
+    same(
+        rt,
+        (table.len(), table.room(), table.has(FIRST)),
+        (0, 2, false),
+    );
+    same(rt, share(table, Home(7)), Some(FIRST));
+    same(rt, share(table, Home(9)), Some(SECOND));
+    same(rt, share(table, Home(5)), None);
+    same(
+        rt,
+        (table.len(), shared(table, FIRST)),
+        (2, Some((Home(7), 1))),
+    );
+    join(table, FIRST);
+    join(table, FIRST);
+    same(rt, shared(table, FIRST), Some((Home(7), 3)));
+    same(rt, shared(table, SECOND), Some((Home(9), 1)));
+}
+
+// The last name gives the home back, and another home gets the share.
+fn are_left(rt: &impl Abort, table: &mut ShareTable) {
+    same(rt, leave(table, FIRST), None);
+    same(rt, leave(table, FIRST), None);
+    same(rt, leave(table, FIRST), Some(Home(7)));
+    same(
+        rt,
+        (table.has(FIRST), table.has(SECOND), table.len()),
+        (false, true, 1),
+    );
+    same(rt, share(table, Home(8)), Some(FIRST));
+    same(rt, shared(table, FIRST), Some((Home(8), 1)));
+    same(rt, shared(table, SECOND), Some((Home(9), 1)));
+}
+
 #[test]
 fn shares_come_and_go(rt: HostRuntime) {
     let mut table = made(&rt, ShareTable::boot(rt.alloc(), 2));
-    let (first, second) = (Share(0), Share(1));
-    same(
-        &rt,
-        (table.len(), table.room(), table.has(first)),
-        (0, 2, false),
-    );
-    same(&rt, share(&mut table, Home(7)), Some(first));
-    same(&rt, share(&mut table, Home(9)), Some(second));
-    same(&rt, share(&mut table, Home(5)), None);
-    same(
-        &rt,
-        (table.len(), shared(&table, first)),
-        (2, Some((Home(7), 1))),
-    );
-    join(&mut table, first);
-    join(&mut table, first);
-    same(&rt, shared(&table, first), Some((Home(7), 3)));
-    same(&rt, shared(&table, second), Some((Home(9), 1)));
-    same(&rt, leave(&mut table, first), None);
-    same(&rt, leave(&mut table, first), None);
-    same(&rt, leave(&mut table, first), Some(Home(7)));
-    same(
-        &rt,
-        (table.has(first), table.has(second), table.len()),
-        (false, true, 1),
-    );
-    same(&rt, share(&mut table, Home(8)), Some(first));
-    same(&rt, shared(&table, first), Some((Home(8), 1)));
-    same(&rt, shared(&table, second), Some((Home(9), 1)));
+    are_shared(&rt, &mut table);
+    are_left(&rt, &mut table);
 }
 
 #[test]
