@@ -12,44 +12,43 @@ fn names(rt: &impl Abort, text: &[u8], extension: &[u8], want: Option<FileName>)
 
 #[test]
 fn names_in_short(rt: HostRuntime) {
-    for (text, want) in [
-        (b"HELLO".as_slice(), FileName::new(b"<SMITH>HELLO.")),
-        (b"hello.sav", FileName::new(b"<SMITH>HELLO.SAV")),
-        (b"<Jones>a-1.", FileName::new(b"<JONES>A-1.")),
-        (b"<A>b", FileName::new(b"<A>B.")),
-        (b"9.9", FileName::new(b"<SMITH>9.9")),
-        // <SMITH> has 7 characters, and the point is one more: as many as a full name has at most
-        (
-            b"ABCDEFGHIJKLMNOPQRSTUVWXYZ01234",
-            FileName::new(b"<SMITH>ABCDEFGHIJKLMNOPQRSTUVWXYZ01234."),
-        ),
-    ] {
-        names(&rt, text, b"", Some(want));
-    }
-    for (text, want) in [
-        (b"hello".as_slice(), FileName::new(b"<SMITH>HELLO.SAV")),
-        (b"hello.", FileName::new(b"<SMITH>HELLO.")),
-    ] {
-        names(&rt, text, b"SAV", Some(want));
-    }
+    let plain = FileName::new(b"<SMITH>HELLO.");
+    let saved = FileName::new(b"<SMITH>HELLO.SAV");
+    let other = FileName::new(b"<JONES>A-1.");
+    names(&rt, b"HELLO", b"", Some(plain));
+    names(&rt, b"hello.sav", b"", Some(saved));
+    names(&rt, b"<Jones>a-1.", b"", Some(other));
+    names(&rt, b"<A>b", b"", Some(FileName::new(b"<A>B.")));
+    names(&rt, b"9.9", b"", Some(FileName::new(b"<SMITH>9.9")));
+    // <SMITH> has 7 characters, and the point is one more: as many as a full name has at most
+    names(
+        &rt,
+        b"ABCDEFGHIJKLMNOPQRSTUVWXYZ01234",
+        b"",
+        Some(FileName::new(b"<SMITH>ABCDEFGHIJKLMNOPQRSTUVWXYZ01234.")),
+    );
+    names(&rt, b"hello", b"SAV", Some(saved));
+    names(&rt, b"hello.", b"SAV", Some(plain));
 }
+
+const NONE: [&[u8]; 12] = [
+    b"",
+    b".SAV",
+    b"A.B.C",
+    b"A_B",
+    b"<>A",
+    b"<A.B>C",
+    b"<A",
+    b"A>B",
+    b"<ABCDEFGHIJKLM>A",
+    b"A\xe1",
+    b"<A><B>C",
+    b"ABCDEFGHIJKLMNOPQRSTUVWXYZ012345",
+];
 
 #[test]
 fn no_names(rt: HostRuntime) {
-    for text in [
-        b"".as_slice(),
-        b".SAV",
-        b"A.B.C",
-        b"A_B",
-        b"<>A",
-        b"<A.B>C",
-        b"<A",
-        b"A>B",
-        b"<ABCDEFGHIJKLM>A",
-        b"A\xe1",
-        b"<A><B>C",
-        b"ABCDEFGHIJKLMNOPQRSTUVWXYZ012345",
-    ] {
+    for &text in &NONE {
         names(&rt, text, b"", None);
     }
     names(&rt, b"ABCDEFGHIJKLMNOPQRSTUVWXYZ01234", b"SAV", None);

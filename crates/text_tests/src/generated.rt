@@ -43,21 +43,23 @@ fn script_behind(seed: u32, events: usize) -> Big {
     big
 }
 
-// The events of a program.
-fn program(t: u8, turns: u64, stride: u64) -> [Event; 10] {
-    let tty = Tty(t);
-    [
-        Event::Poke(tty, 0o100, Word::wrapped(0o350002000000)),
-        Event::Poke(tty, 0o101, Word::wrapped(0o270100000004)),
-        Event::Poke(tty, 0o102, Word::wrapped(0o367140000100)),
-        Event::Poke(tty, 0o103, Word::wrapped(0o201040000102)),
-        Event::Poke(tty, 0o104, Word::wrapped(0o104000000074)),
-        Event::Poke(tty, 0o105, Word::wrapped(0o104000000170)),
-        Event::Poke(tty, 2, Word::wrapped(0o20)),
-        Event::Poke(tty, 3, Word::wrapped(turns)),
-        Event::Poke(tty, 4, Word::wrapped(stride)),
-        Event::Start(tty, 0o100),
-    ]
+// A word is put at an address of a terminal's program next.
+fn poke_comes(rt: &impl Abort, big: &mut Big, tty: Tty, address: u32, word: u64) {
+    comes(rt, big, Event::Poke(tty, address, Word::wrapped(word)));
+}
+
+// The events of a program come next.
+fn program_comes(rt: &impl Abort, big: &mut Big, tty: Tty, turns: u64, stride: u64) {
+    poke_comes(rt, big, tty, 0o100, 0o350002000000);
+    poke_comes(rt, big, tty, 0o101, 0o270100000004);
+    poke_comes(rt, big, tty, 0o102, 0o367140000100);
+    poke_comes(rt, big, tty, 0o103, 0o201040000102);
+    poke_comes(rt, big, tty, 0o104, 0o104000000074);
+    poke_comes(rt, big, tty, 0o105, 0o104000000170);
+    poke_comes(rt, big, tty, 2, 0o20);
+    poke_comes(rt, big, tty, 3, turns);
+    poke_comes(rt, big, tty, 4, stride);
+    comes(rt, big, Event::Start(tty, 0o100));
 }
 
 // The event that fills a page.
@@ -68,43 +70,71 @@ fn filling(page: u16) -> Event {
     Event::Words(FileName::new(b"<BIG>OUT.BIN"), page, 0, row)
 }
 
+// A user logs in at each of eight terminals.
+fn users_log_in(rt: &impl Abort, big: &mut Big) {
+    for t in 0..8 {
+        comes(rt, big, Event::Login(Tty(t), DirName::new(b"U")));
+    }
+}
+
+// A file of 64 pages is made.
+fn a_file_is_filled(rt: &impl Abort, big: &mut Big) {
+    comes(rt, big, Event::File(FileName::new(b"<BIG>OUT.BIN")));
+    for page in 0..64 {
+        comes(rt, big, filling(page));
+    }
+}
+
+// A program is put and started at each terminal.
+fn programs_start(rt: &impl Abort, big: &mut Big) {
+    for &(t, turns, stride) in &PROGRAMS {
+        program_comes(rt, big, Tty(t), turns, stride);
+    }
+}
+
+// Pages go to the drum between runs.
+fn frames_are_evicted(rt: &impl Abort, big: &mut Big) {
+    for &frame in &EVICTED {
+        comes(rt, big, Event::Evict(frame));
+        comes(rt, big, Event::Run(500));
+    }
+}
+
+// The forks of each terminal are shown.
+fn forks_are_shown(rt: &impl Abort, big: &mut Big) {
+    for t in 0..8 {
+        comes(rt, big, Event::Forks(Tty(t)));
+    }
+}
+
 #[test]
 fn seed_7_is_as_written(rt: HostRuntime) {
     let mut big = big_from(7);
-    for t in 0..8 {
-        comes(&rt, &mut big, Event::Login(Tty(t), DirName::new(b"U")));
-    }
-    comes(&rt, &mut big, Event::File(FileName::new(b"<BIG>OUT.BIN")));
-    for page in 0..64 {
-        comes(&rt, &mut big, filling(page));
-    }
-    for (t, turns, stride) in PROGRAMS {
-        for event in program(t, turns, stride) {
-            comes(&rt, &mut big, event);
-        }
-    }
-    for frame in EVICTED {
-        comes(&rt, &mut big, Event::Evict(frame));
-        comes(&rt, &mut big, Event::Run(500));
-    }
+    users_log_in(&rt, &mut big);
+    a_file_is_filled(&rt, &mut big);
+    programs_start(&rt, &mut big);
+    frames_are_evicted(&rt, &mut big);
     comes(&rt, &mut big, Event::Tick);
-    for t in 0..8 {
-        comes(&rt, &mut big, Event::Forks(Tty(t)));
-    }
+    forks_are_shown(&rt, &mut big);
     same(&rt, big.next().is_none(), true);
     same(&rt, big.next().is_none(), true);
 }
 
+// Behind so many events of the script of a seed comes this one.
+fn comes_behind(rt: &impl Abort, seed: u32, events: usize, want: Event) {
+    comes(rt, &mut script_behind(seed, events), want);
+}
+
 #[test]
 fn seeds_give_numbers_of_their_own(rt: HostRuntime) {
-    for (seed, events, want) in [
-        (0, 80, Event::Poke(Tty(0), 3, Word::wrapped(300))),
-        (0, 81, Event::Poke(Tty(0), 4, Word::wrapped(116736))),
-        (0, 153, Event::Evict(48)),
-        (999_999_999, 80, Event::Poke(Tty(0), 3, Word::wrapped(397))),
-        (999_999_999, 153, Event::Evict(151)),
-    ] {
-        comes(&rt, &mut script_behind(seed, events), want);
-    }
+    let (first, last) = (0, 999_999_999);
+    let turns = Event::Poke(Tty(0), 3, Word::wrapped(300));
+    comes_behind(&rt, first, 80, turns);
+    let stride = Event::Poke(Tty(0), 4, Word::wrapped(116736));
+    comes_behind(&rt, first, 81, stride);
+    comes_behind(&rt, first, 153, Event::Evict(48));
+    let turns = Event::Poke(Tty(0), 3, Word::wrapped(397));
+    comes_behind(&rt, last, 80, turns);
+    comes_behind(&rt, last, 153, Event::Evict(151));
     same(&rt, script_behind(1, 242).next().is_none(), true);
 }

@@ -22,11 +22,15 @@ mod laws;
 #[cfg(test)]
 mod lines;
 #[cfg(test)]
+mod made;
+#[cfg(test)]
 mod pieces;
 #[cfg(test)]
 mod runs;
 #[cfg(test)]
 mod same;
+#[cfg(test)]
+mod sinks;
 #[cfg(test)]
 mod streams;
 #[cfg(test)]

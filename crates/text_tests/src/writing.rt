@@ -1,12 +1,16 @@
 // What a writer writes, byte for byte.
+ghost use Rattle.std.specs.Prelude.{◌≤◌};
+ghost use Rattle.script_texts.specs.Follows.{IsTurn};
+ghost use Rattle.script_texts.specs.Limits.{FitsItem, FitsStep};
+
 use crate::events::spells;
+use crate::made::made;
 use crate::same::same;
+use crate::sinks::{have, only, sink};
 use machine_names::{DirName, ForkName, Tty, TypedText};
 use outside::{Failed, MemSink, Sink};
 use script_texts::{Event, ForkLine, ForkStatus, Item, Refusal, Step, Taker, WaitOn};
-use std::alloc::Global;
 use std::process::Abort;
-use std::test::Fail;
 use texts::{Last, Status, Writer};
 use word36::Word;
 
@@ -24,231 +28,249 @@ const DONE: Last = Last::Done {
 // A writer of both texts in memory.
 type InMemory<'a> = Writer<'a, MemSink, MemSink>;
 
-// A sink with room for so many bytes.
-fn sink(alloc: Global, room: usize) -> Result<MemSink, Fail> {
-    let sink = MemSink::new(alloc, room, Vec::new(alloc))
-        .ok()
-        .ok_or("no memory")?;
-    Ok(sink)
+// A step is taken.
+fn take_step<W: Taker>(rt: &impl Abort, writer: &mut W, step: Step)
+    requires { FitsStep step }
+{
+    same(rt, writer.step(step), Ok(()));
 }
 
-// A list of one number.
-fn only(alloc: Global, number: u64) -> Result<Vec<u64>, Fail> {
-    Ok(vec![in alloc; number]?)
+// So many equal turns are taken.
+fn take_turns<W: Taker>(rt: &impl Abort, writer: &mut W, turn: Step, count: u64)
+    requires fits { FitsStep turn }
+    requires turn { IsTurn turn }
+    requires some { 1 ≤ count }
+{
+    same(rt, writer.turns(turn, count), Ok(()));
 }
 
-// The sinks have these bytes.
-fn have(rt: &impl Abort, out: &MemSink, rec: &MemSink, transcript: &[u8], record: &[u8]) {
-    same(rt, out.bytes(), transcript);
-    same(rt, rec.bytes(), record);
+// An item is taken.
+fn take_item<W: Taker>(rt: &impl Abort, writer: &mut W, item: Item)
+    requires { FitsItem item }
+{
+    same(rt, writer.item(item), Ok(()));
 }
 
-fn write_a_run(writer: &mut InMemory<'_>) -> Result<(), Failed> {
-    writer.item(Item::Char(Tty(0), b'@'))?;
-    writer.step(Step::Outer(Event::Login(Tty(0), DirName::new(b"SMITH"))))?;
+// A user logs in, and a program is put and started.
+fn write_the_events<W: Taker>(rt: &impl Abort, writer: &mut W) {
+    take_item(rt, writer, Item::Char(Tty(0), b'@'));
+    take_step(
+        rt,
+        writer,
+        Step::Outer(Event::Login(Tty(0), DirName::new(b"SMITH"))),
+    );
     let word = Word::wrapped(0o201040000101);
-    writer.step(Step::Outer(Event::Poke(Tty(0), 0o100, word)))?;
-    writer.step(Step::Outer(Event::Start(Tty(0), 0o100)))?;
-    writer.step(Step::Unit(FORK))?;
-    writer.item(Item::Char(Tty(0), b'A'))?;
-    writer.step(Step::Unit(FORK))?;
-    writer.item(Item::Char(Tty(0), b'\r'))?;
-    writer.item(Item::Char(Tty(0), b'\n'))?;
-    writer.item(Item::Char(Tty(0), b'@'))?;
-    writer.step(Step::Unit(FORK))?;
-    writer.step(Step::Idle)?;
-    writer.step(Step::Idle)?;
-    writer.finish(DONE)
+    take_step(rt, writer, Step::Outer(Event::Poke(Tty(0), 0o100, word)));
+    take_step(rt, writer, Step::Outer(Event::Start(Tty(0), 0o100)));
+}
+
+// It runs three units, of which two print, and the machine is idle then.
+fn write_the_turns<W: Taker>(rt: &impl Abort, writer: &mut W) {
+    take_step(rt, writer, Step::Unit(FORK));
+    take_item(rt, writer, Item::Char(Tty(0), b'A'));
+    take_step(rt, writer, Step::Unit(FORK));
+    take_item(rt, writer, Item::Char(Tty(0), b'\r'));
+    take_item(rt, writer, Item::Char(Tty(0), b'\n'));
+    take_item(rt, writer, Item::Char(Tty(0), b'@'));
+    take_step(rt, writer, Step::Unit(FORK));
+    take_step(rt, writer, Step::Idle);
+    take_step(rt, writer, Step::Idle);
+}
+
+fn write_a_run(rt: &impl Abort, writer: &mut InMemory<'_>) {
+    write_the_events(rt, writer);
+    write_the_turns(rt, writer);
+    same(rt, writer.finish(DONE), Ok(()));
 }
 
 #[test]
-fn writes_a_run(rt: HostRuntime) -> Result<(), Fail> {
-    let mut out = sink(rt.alloc(), 64)?;
-    let mut rec = sink(rt.alloc(), 256)?;
-    same(
-        &rt,
-        write_a_run(&mut Writer::new(&mut out, &mut rec)),
-        Ok(()),
-    );
+fn writes_a_run(rt: HostRuntime) {
+    let mut out = sink(&rt, rt.alloc(), 64);
+    let mut rec = sink(&rt, rt.alloc(), 256);
+    write_a_run(&rt, &mut Writer::new(&mut out, &mut rec));
     have(
         &rt,
-        &out,
-        &rec,
+        out,
+        rec,
         b"T0 @A\\015\\012\nT0 @\n",
         b"LOGIN 0 SMITH\nPOKE 0 100 201040000101\nSTART 0 100\nU 0 1 3\nI 2\nE 0 0\n",
     );
-    Ok(())
 }
 
 // Nine entries and ten characters: two events, five units of two forks, and two idle entries.
-fn write_a_tally(writer: &mut InMemory<'_>) -> Result<(), Failed> {
-    writer.step(Step::Outer(Event::Login(Tty(0), DirName::new(b"A"))))?;
-    writer.turns(Step::Unit(FORK), 3)?;
+fn write_a_tally(rt: &impl Abort, writer: &mut InMemory<'_>) {
+    take_step(
+        rt,
+        writer,
+        Step::Outer(Event::Login(Tty(0), DirName::new(b"A"))),
+    );
+    take_turns(rt, writer, Step::Unit(FORK), 3);
     for code in *b"0123456789" {
-        writer.item(Item::Char(Tty(1), code))?;
+        take_item(rt, writer, Item::Char(Tty(1), code));
     }
-    writer.step(Step::Unit(FORK))?;
-    writer.step(Step::Outer(Event::Tick))?;
-    writer.item(Item::Refusal(Refusal::Busy(Tty(15))))?;
-    writer.turns(Step::Idle, 2)?;
-    writer.step(Step::Unit(ForkName {
+    take_step(rt, writer, Step::Unit(FORK));
+    take_step(rt, writer, Step::Outer(Event::Tick));
+    take_item(rt, writer, Item::Refusal(Refusal::Busy(Tty(15))));
+    take_turns(rt, writer, Step::Idle, 2);
+    let other = ForkName {
         tty: Tty(1),
         serial: 1,
-    }))?;
-    writer.finish(Last::Summary {
+    };
+    take_step(rt, writer, Step::Unit(other));
+    let summary = Last::Summary {
         reads: 4,
         writes: 5,
-    })
+    };
+    same(rt, writer.finish(summary), Ok(()));
 }
 
 #[test]
-fn counts_what_it_writes(rt: HostRuntime) -> Result<(), Fail> {
-    let mut out = sink(rt.alloc(), 64)?;
-    let mut rec = sink(rt.alloc(), 64)?;
-    same(
-        &rt,
-        write_a_tally(&mut Writer::new(&mut out, &mut rec)),
-        Ok(()),
-    );
+fn counts_what_it_writes(rt: HostRuntime) {
+    let mut out = sink(&rt, rt.alloc(), 64);
+    let mut rec = sink(&rt, rt.alloc(), 64);
+    write_a_tally(&rt, &mut Writer::new(&mut out, &mut rec));
     have(
         &rt,
-        &out,
-        &rec,
+        out,
+        rec,
         b"T1 0123456789\n?BUSY 15\nS 2 5 2 10\n",
         b"LOGIN 0 A\nU 0 1 4\nTICK\nI 2\nU 1 1 1\nE 4 5\n",
     );
-    Ok(())
 }
 
-fn write_items(writer: &mut InMemory<'_>) -> Result<(), Failed> {
-    writer.item(Item::Char(Tty(3), 0o177))?;
-    writer.item(Item::Char(Tty(3), b'\\'))?;
-    writer.item(Item::Refusal(Refusal::Busy(Tty(15))))?;
-    writer.item(Item::Char(Tty(2), b' '))?;
-    writer.item(Item::Char(Tty(3), b'~'))?;
-    writer.item(Item::ForkLine(ForkLine {
+// A fork that is forced, and one that sleeps and is frozen.
+fn write_forks(rt: &impl Abort, writer: &mut InMemory<'_>) {
+    let forced = ForkLine {
         name: FORK,
         superior: 0,
         status: ForkStatus::Forced(15),
         frozen: false,
         address: 0o100,
-    }))?;
-    writer.item(Item::ForkLine(ForkLine {
+    };
+    take_item(rt, writer, Item::ForkLine(forced));
+    let frozen = ForkLine {
         name: FORK,
         superior: 7,
         status: ForkStatus::Wait(WaitOn::Sleep(5)),
         frozen: true,
         address: 0,
-    }))?;
+    };
+    take_item(rt, writer, Item::ForkLine(frozen));
+}
+
+fn write_items(rt: &impl Abort, writer: &mut InMemory<'_>) {
+    take_item(rt, writer, Item::Char(Tty(3), 0o177));
+    take_item(rt, writer, Item::Char(Tty(3), b'\\'));
+    take_item(rt, writer, Item::Refusal(Refusal::Busy(Tty(15))));
+    take_item(rt, writer, Item::Char(Tty(2), b' '));
+    take_item(rt, writer, Item::Char(Tty(3), b'~'));
+    write_forks(rt, writer);
     let word = Word::wrapped(0o510040000104);
-    writer.item(Item::Examined(Tty(0), 1, 3, word))?;
-    writer.item(Item::PageWord(0, word))?;
-    writer.item(Item::UnitLine(FORK, 0o777))?;
-    writer.finish(Last::Stopped(Status::Script, 12))
+    take_item(rt, writer, Item::Examined(Tty(0), 1, 3, word));
+    take_item(rt, writer, Item::PageWord(0, word));
+    take_item(rt, writer, Item::UnitLine(FORK, 0o777));
+    let stopped = Last::Stopped(Status::Script, 12);
+    same(rt, writer.finish(stopped), Ok(()));
 }
 
 #[test]
-fn writes_each_item(rt: HostRuntime) -> Result<(), Fail> {
-    let mut out = sink(rt.alloc(), 256)?;
-    let mut rec = sink(rt.alloc(), 0)?;
-    same(
-        &rt,
-        write_items(&mut Writer::new(&mut out, &mut rec)),
-        Ok(()),
-    );
+fn writes_each_item(rt: HostRuntime) {
+    let mut out = sink(&rt, rt.alloc(), 256);
+    let mut rec = sink(&rt, rt.alloc(), 0);
+    write_items(&rt, &mut Writer::new(&mut out, &mut rec));
     have(
         &rt,
-        &out,
-        &rec,
+        out,
+        rec,
         b"T3 \\177\\134\n?BUSY 15\nT2  \nT3 ~\nF 0 1 0 FORCED 15 PC 000100\nF 0 1 7 SLEEP FROZEN PC 000000\nX 0 1 000003 510040000104\nW 000 510040000104\nU 0 1 000777\n?LINE 12\n",
         b"",
     );
-    Ok(())
 }
 
 // Writes what is typed behind two pieces of a run.
-fn write_pieces(writer: &mut InMemory<'_>) -> Result<(), Failed> {
-    writer.step(Step::Unit(FORK))?;
-    writer.step(Step::Unit(FORK))?;
-    writer.step(Step::Outer(Event::Tick))?;
-    writer.step(Step::Unit(FORK))?;
-    writer.step(Step::Outer(Event::TypeIn(Tty(10), TypedText::new(b"A \\\r"))))?;
-    writer.step(Step::Outer(Event::Trace(true)))?;
-    writer.finish(Last::Done {
+fn write_pieces(rt: &impl Abort, writer: &mut InMemory<'_>) {
+    take_step(rt, writer, Step::Unit(FORK));
+    take_step(rt, writer, Step::Unit(FORK));
+    take_step(rt, writer, Step::Outer(Event::Tick));
+    take_step(rt, writer, Step::Unit(FORK));
+    take_step(
+        rt,
+        writer,
+        Step::Outer(Event::TypeIn(Tty(10), TypedText::new(b"A \\\r"))),
+    );
+    take_step(rt, writer, Step::Outer(Event::Trace(true)));
+    let last = Last::Done {
         reads: 3,
         writes: 40,
-    })
+    };
+    same(rt, writer.finish(last), Ok(()));
 }
 
 #[test]
-fn joins_a_run_over_pieces(rt: HostRuntime) -> Result<(), Fail> {
-    let mut out = sink(rt.alloc(), 0)?;
-    let mut rec = sink(rt.alloc(), 256)?;
-    let line = b"TYPE 10 A \\134\\015".as_slice();
+fn joins_a_run_over_pieces(rt: HostRuntime) {
+    let mut out = sink(&rt, rt.alloc(), 0);
+    let mut rec = sink(&rt, rt.alloc(), 256);
     let typed = Event::TypeIn(Tty(10), TypedText::new(b"A \\\r"));
-    same(&rt, spells(line, &typed), true);
-    let written = write_pieces(&mut Writer::new(&mut out, &mut rec));
-    same(&rt, written, Ok(()));
-    let record = b"U 0 1 2\nTICK\nU 0 1 1\nTYPE 10 A \\134\\015\nTRACE ON\nE 3 40\n";
-    have(&rt, &out, &rec, b"", record);
-    Ok(())
-}
-
-fn write_turns(writer: &mut InMemory<'_>) -> Result<(), Failed> {
-    writer.step(Step::Unit(FORK))?;
-    writer.turns(Step::Unit(FORK), 41)?;
-    writer.turns(Step::Idle, 7)?;
-    writer.step(Step::Idle)?;
-    writer.finish(DONE)
-}
-
-#[test]
-fn counts_turns_at_once(rt: HostRuntime) -> Result<(), Fail> {
-    let mut out = sink(rt.alloc(), 0)?;
-    let mut rec = sink(rt.alloc(), 256)?;
-    same(
+    same(&rt, spells(b"TYPE 10 A \\134\\015", &typed), true);
+    write_pieces(&rt, &mut Writer::new(&mut out, &mut rec));
+    have(
         &rt,
-        write_turns(&mut Writer::new(&mut out, &mut rec)),
-        Ok(()),
+        out,
+        rec,
+        b"",
+        b"U 0 1 2\nTICK\nU 0 1 1\nTYPE 10 A \\134\\015\nTRACE ON\nE 3 40\n",
     );
-    have(&rt, &out, &rec, b"", b"U 0 1 42\nI 8\nE 0 0\n");
-    Ok(())
+}
+
+fn write_turns(rt: &impl Abort, writer: &mut InMemory<'_>) {
+    take_step(rt, writer, Step::Unit(FORK));
+    take_turns(rt, writer, Step::Unit(FORK), 41);
+    take_turns(rt, writer, Step::Idle, 7);
+    take_step(rt, writer, Step::Idle);
+    same(rt, writer.finish(DONE), Ok(()));
 }
 
 #[test]
-fn names_a_failing_write(rt: HostRuntime) -> Result<(), Fail> {
-    let mut out = sink(rt.alloc(), 64)?;
-    let failing = only(rt.alloc(), 2)?;
-    let mut rec = MemSink::new(rt.alloc(), 64, failing)
-        .ok()
-        .ok_or("no memory")?;
-    {
-        let mut writer = Writer::new(&mut out, &mut rec);
-        same(&rt, writer.step(Step::Outer(Event::Tick)), Ok(()));
-        same(&rt, writer.step(Step::Outer(Event::Tick)), Err(Failed));
-        same(&rt, writer.faults(), 1);
-    }
+fn counts_turns_at_once(rt: HostRuntime) {
+    let mut out = sink(&rt, rt.alloc(), 0);
+    let mut rec = sink(&rt, rt.alloc(), 256);
+    write_turns(&rt, &mut Writer::new(&mut out, &mut rec));
+    have(&rt, out, rec, b"", b"U 0 1 42\nI 8\nE 0 0\n");
+}
+
+// The second write fails, which is counted.
+fn fail_to_write(rt: &impl Abort, writer: &mut InMemory<'_>) {
+    take_step(rt, writer, Step::Outer(Event::Tick));
+    same(rt, writer.step(Step::Outer(Event::Tick)), Err(Failed));
+    same(rt, writer.faults(), 1);
+}
+
+#[test]
+fn names_a_failing_write(rt: HostRuntime) {
+    let mut out = sink(&rt, rt.alloc(), 64);
+    let failing = only(&rt, rt.alloc(), 2);
+    let mut rec = made(&rt, MemSink::new(rt.alloc(), 64, failing));
+    fail_to_write(&rt, &mut Writer::new(&mut out, &mut rec));
     same(&rt, rec.faults(), 1);
-    same(&rt, rec.bytes(), b"TICK\n".as_slice());
-    Ok(())
+    have(&rt, out, rec, b"", b"TICK\n");
 }
 
 // What is open is shown by a flush as it stands; the flush of the end fails, and both texts are whole.
+fn fail_to_flush(rt: &impl Abort, writer: &mut InMemory<'_>) {
+    take_item(rt, writer, Item::Char(Tty(0), b'@'));
+    take_step(rt, writer, Step::Unit(FORK));
+    same(rt, writer.flush(), Ok(()));
+    same(rt, writer.finish(DONE), Err(Failed));
+    writer.give_up();
+    same(rt, writer.faults(), 1);
+}
+
 #[test]
-fn names_a_failing_flush(rt: HostRuntime) -> Result<(), Fail> {
-    let mut out = sink(rt.alloc(), 64)?;
-    let failing = only(rt.alloc(), 2)?;
-    let mut rec = sink(rt.alloc(), 64)?.with_failing_flushes(failing);
-    {
-        let mut writer = Writer::new(&mut out, &mut rec);
-        same(&rt, writer.item(Item::Char(Tty(0), b'@')), Ok(()));
-        same(&rt, writer.step(Step::Unit(FORK)), Ok(()));
-        same(&rt, writer.flush(), Ok(()));
-        same(&rt, writer.finish(DONE), Err(Failed));
-        writer.give_up();
-        same(&rt, writer.faults(), 1);
-    }
+fn names_a_failing_flush(rt: HostRuntime) {
+    let mut out = sink(&rt, rt.alloc(), 64);
+    let failing = only(&rt, rt.alloc(), 2);
+    let mut rec = sink(&rt, rt.alloc(), 64).with_failing_flushes(failing);
+    fail_to_flush(&rt, &mut Writer::new(&mut out, &mut rec));
     same(&rt, rec.faults(), 1);
-    have(&rt, &out, &rec, b"T0 @\n", b"U 0 1 1\nE 0 0\n");
-    Ok(())
+    have(&rt, out, rec, b"T0 @\n", b"U 0 1 1\nE 0 0\n");
 }
