@@ -54,6 +54,6 @@ pub enum Need {
 #[derive(Clone, Copy, PartialEq, Eq)]
 pub struct SpaceHandle(pub u32);
 
-/// Where the words of a page are that a look has found. It stays so until an entry changes.
+/// Where the words of a page are that a look has found. It stays so until an entry changes, a home is given up, or a transfer ends.
 #[derive(Clone, Copy, PartialEq, Eq)]
 pub struct Found(pub u32);

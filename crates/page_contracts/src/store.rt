@@ -116,16 +116,16 @@ pub trait Store {
         requires { is_taken (place (means.homes self.old) home.0) ≡ true }
         ensures { IsFreed means home.0 self.old self.new };
 
-    /// Asks for a page that is in no frame, or for a frame, and answers what to wait for. Page, where its read
-    /// is queued, or a frame is free so that it can be queued now. Else Frame, and the page that is next to
-    /// leave its frame, if one may, begins to.
+    /// Asks for a page that is in no frame, or for a frame, and answers what to wait for. Answers Page where the
+    /// read is in the queue, or goes into it now since some frame is free; and else Frame: the page that is next
+    /// to leave, if any may, begins to.
     fn fetch(&mut self, need: Need) -> Need
         requires { CanFetch means self.old need }
         ensures answer { result ≡ awaited (meeting (means.queue self.old) (means.spare self.old) need) }
         ensures fetched { IsFetched means need self.old self.new };
 
-    /// Ends the oldest transfer. Nothing exactly where none is queued; DrumFault only where the drum's count of
-    /// faults rises, and then nothing changes here. No word of a page changes.
+    /// Ends the oldest transfer, and answers Nothing exactly where the queue is empty. Where it answers DrumFault,
+    /// the drum's count of faults rises and nothing changes here. No word of a page changes.
     fn complete<D: Drum>(&mut self, drum: &mut D) -> Completed
         requires { length (means.homes self.old) ≤ D.size drum.old }
         ensures ends { Completes means D.fault_count D.read_count D.write_count D.size result self.old self.new drum.old drum.new }
@@ -142,7 +142,7 @@ pub trait Store {
     fn evict(&mut self, frame: FrameId)
         ensures { Evicts means frame.0 self.old self.new };
 
-    /// Holds the frame of a home's page for a fork, or for the console. It changes nothing where it is held for that holder already.
+    /// Holds the frame of a home's page, which no transfer moves, for a fork that has fewer than 128, or for the console, with fewer than 16. Nothing changes where it is held so already.
     fn keep(&mut self, holder: u16, home: Home)
         requires can { CanKeep means self.old holder home.0 }
         requires holder { holder < MOST_HOLDERS }
