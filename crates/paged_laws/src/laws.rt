@@ -1,6 +1,8 @@
 // Where pages and maps stand. A law does nothing when it runs.
-ghost use Rattle.std.specs.Prelude.{◌≡◌, ◌<◌, ℕ, Some};
+ghost use Rattle.std.specs.Prelude.{◌≡◌, ◌-◌, ◌/◌, ◌<◌, ℕ, Some};
+ghost use Rattle.page_contracts.specs.declared.store.TheConstants.{MOST_HOLDERS};
 ghost use Rattle.page_contracts.specs.Pages.{Housed, home_for};
+ghost use Rattle.paged_store.specs.Keeping.{members_of};
 ghost use Rattle.paged_store.specs.OnePlace.{HasOnePlace};
 
 use known_slots::KnownSlots;
@@ -19,4 +21,11 @@ pub fn pages_and_maps_stand_apart(pages: &KnownSlots<PagedStore>)
     ensures below { (x : Housed) (home : ℕ) → home_for ⟦<KnownSlots<PagedStore> as Pages>⟧.means pages.now x ≡ Some home → home < ⟦<KnownSlots<PagedStore> as Pages>⟧.means.most pages.now }
     ensures apart { (x y : Housed) (home : ℕ) → home_for ⟦<KnownSlots<PagedStore> as Pages>⟧.means pages.now x ≡ Some home
         → home_for ⟦<KnownSlots<PagedStore> as Pages>⟧.means pages.now y ≡ Some home → x ≡ y }
+{}
+
+/// The numbers by which frames are shared out are these: the members of the balance set have 128 frames each, of those that
+/// are over 32, and there are 64 who may hold some.
+pub fn frames_are_shared_out()
+    ensures members { (frames : ℕ) → members_of frames ≡ (frames - 32) / 128 }
+    ensures holders { MOST_HOLDERS ≡ 64 }
 {}

@@ -5,4 +5,4 @@
 
 mod laws;
 
-pub use laws::{pages_and_maps_have_one_place, pages_and_maps_stand_apart};
+pub use laws::{frames_are_shared_out, pages_and_maps_have_one_place, pages_and_maps_stand_apart};
