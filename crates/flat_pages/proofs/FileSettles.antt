@@ -1,5 +1,5 @@
 -- A page of a file that is settled: what its touch answered, and what it answers then.
-use Rattle.std.proofs.Common.{◌≡◌, ◌≢◌, inl, ℕ, ◌+◌, ◌<◌, ◌≤◌, [], Bool, true, false, cond, Option, None, Some, length, refl, sym, ◌∙◌, ap, subst, arith, is_some}
+use Rattle.std.proofs.Common.{◌≡◌, ◌≢◌, ◌⊎◌, inl, inr, ℕ, List, ◌+◌, ◌<◌, ◌≤◌, [], Bool, true, false, cond, Option, None, Some, length, refl, sym, ◌∙◌, ap, subst, arith, is_some}
 use Rattle.std.specs.Prelude.{nat_lt}
 use Rattle.std.specs.Option.{option_map, unwrap_or}
 use Rattle.std.specs.Cmp.{nat_cmp_total}
@@ -21,8 +21,8 @@ use Rattle.page_homes.specs.declared.homes.Home.{Home}
 use Rattle.page_contracts.specs.declared.answers.Touch.{Touch}
 use Rattle.page_contracts.specs.declared.answers.Touch.TheVariants.{Ready, Zero, Copy, Absent, NeedFrame, Denied, Full}
 use Rattle.page_contracts.specs.DrumWords.{DrumWords}
-use Rattle.page_contracts.specs.Pages.{FilesMade, PagesMeaning, SettlesTo, StandsAt, StandsInFile, TakesFrames, UsesPlace, MayLose, map_set, spot_of, IsPlace, absent_or, framed, can_settle, frames_taken}
-use Rattle.page_contracts.specs.Stores.{StoreMeaning, IsSound, IsUsed, Loses, RenewsOne, FitsHomes, free, here, place, is_here, away_at, away_home, traffic}
+use Rattle.page_contracts.specs.Pages.{FilesMade, PagesMeaning, SettlesHome, SettlesTo, StandsAt, StandsInFile, TakesFrames, UsesPlace, MayLose, map_set, spot_of, IsPlace, absent_or, framed, can_settle, frames_taken}
+use Rattle.page_contracts.specs.Stores.{StoreMeaning, HomePlace, IsSound, IsUsed, Loses, RenewsOne, FitsHomes, free, here, place, is_here, away_at, away_home, traffic}
 use Rattle.page_contracts.proofs.Losing.{loses_made, loses_used, made_one, used_one}
 use Rattle.plain_pages.specs.PlainPages.{NumberedPages}
 use Rattle.plain_pages.specs.References.{in_file, blank, make, next_making, next_page, settled, Making}
@@ -41,6 +41,7 @@ use Rattle.flat_pages.proofs.FiledHomes.{files_still, get_filed, held_insert, wi
 use Rattle.flat_pages.proofs.FileSetting.{maps_alike}
 use Rattle.flat_pages.proofs.FileTouches.{makes_in}
 use Rattle.flat_pages.proofs.HandedOn.{used_within}
+use Rattle.flat_pages.proofs.MapHomes.{settles_home}
 use Rattle.flat_pages.proofs.HeldEntries.{total_le}
 use Rattle.flat_pages.proofs.Settled.{ArePages, takes_frames, unused}
 use Rattle.flat_pages.proofs.Settling.{content_other, content_set, fits_set, sized_of, terminals_next, console_next}
@@ -220,6 +221,9 @@ pub record FileSettled {S : Type 0} (store : StoreMeaning S) (old new : S) (tabl
   pub named : fin.get tables'.files (file_page file.0 page) ≡ Some home
   pub here : is_here (place (store.homes new) home.0) ≡ true
   pub renews : RenewsOne home.0 (traffic store old) (traffic store new)
+  pub own_place : (place (store.homes old) home.0 ≡ free) ⊎ (place (store.homes new) home.0 ≡ place (store.homes old) home.0)
+  pub places : (k : ℕ) → k ≢ home.0 → place (store.homes new) k ≡ place (store.homes old) k
+  pub names : (k : ℕ) → k ≢ home.0 → name_at tables'.names.items k ≡ name_at tables.names.items k
   pub filed : FiledThen (tables_of (store.homes old) tables) (tables_of (store.homes new) tables') (file_page file.0 page) (touch_of_place (tables_of (store.homes old) tables) (store.spare old) (File file page) kind)
   pub used : touch_of_place (tables_of (store.homes old) tables) (store.spare old) (File file page) kind ≡ Ready → IsUsed store home.0 old new × (fin.get tables.files (file_page file.0 page) ≡ Some home)
   pub maps : tables'.maps.held.items ≡ tables.maps.held.items
@@ -245,6 +249,9 @@ module _ {S : Type 0} (store : StoreMeaning S) (old new : S) (sound : IsSound st
         named = ap (λ (x : MapTables). fin.get x.files (file_page file.0 page)) k.same ∙ there;
         here = used_here store old new h.0 k.homes (here_when v.places h.0 (a.is_taken h.0 ∙ ap is_some (filed_named v a (file_page file.0 page) h there).1) (near v a sound.pages (store.spare old) file page kind ready h there));
         renews = used_one store old new h.0 k.used;
+        own_place = inr (ap (λ (ps : List HomePlace). place ps h.0) k.homes);
+        places = λ j ne. ap (λ (ps : List HomePlace). place ps j) k.homes;
+        names = λ j ne. ap (λ (x : MapTables). name_at x.names.items j) k.same;
         filed = subst (FiledThen v v' (file_page file.0 page)) (sym is) (ap filed_in same);
         used = λ r. (k.used, there);
         maps = ap (λ (x : MapTables). x.maps.held.items) k.same;
@@ -264,6 +271,9 @@ module _ {S : Type 0} (store : StoreMeaning S) (old new : S) (sound : IsSound st
         named = ap (λ (x : Tables). fin.get x.files (file_page file.0 page)) k.taken ∙ with_here tables.files (file_page file.0 page) (Some k.home);
         here = made_here store old new k.home.0 (here zero_words) k.made refl;
         renews = made_one store old new k.home.0 (here zero_words) k.made;
+        own_place = inl k.made.was_free;
+        places = λ j ne. ap (λ (ps : List HomePlace). place ps j) k.made.homes ∙ get_or-set_other (store.homes old) k.home.0 j (here zero_words) free ne;
+        names = λ j ne. ap (λ (x : Tables). name_at x.names j) k.taken ∙ get_or-set_other tables.names.items k.home.0 j (Some (next_name tables.serials owner)) None ne;
         filed = subst (FiledThen v v' (file_page file.0 page)) (sym is) (subst (λ (x : Tables). FiledThen v x (file_page file.0 page) Zero) (sym k.taken)
             (zero_filed v a sound.pages (store.spare old) file page kind ready none k.home below k.made.was_free owner own (store.spare new) k.made.spare));
         used = λ r. absurd (let z : Zero ≡ Ready = sym is ∙ r in cc z);
@@ -288,6 +298,7 @@ pub record AtPlace {P : Type 0} (means : PagesMeaning P) (at : Place) (kind : Ki
   pub count : means.count q ≡ means.count p + frames_taken (means.touched p at kind)
   pub loses : MayLose means p q
   pub uses : UsesPlace means at kind p q
+  pub homes : SettlesHome means at p q
   pub filed : FilesMade means at (means.touched p at kind) p q
   pub ready : (home : ℕ) → means.touched p at kind ≡ Ready → StandsAt means p at home → IsUsed means.store home p q
 
@@ -333,6 +344,8 @@ module _ {P S : Type 0} (store : StoreMeaning S) (part : P → S) (mt : P → Ma
       set = λ d fits. no_map_home (map_set (next_making (means.plain p d) (in_file (file_page file.0 page)) kind));
       ages = k.renews;
     });
+    homes = (let n = filed_stands w' a' (file_page file.0 page) k.home k.named in
+        settles_home store part (λ x. tables_of (store.homes (part x)) (mt x)) p q (record { tty = record { 0 = 0 }; serial = 0 }) a a' (File file page) k.home.0 refl refl k.places k.names (record { name = n.0; named = n.1; there = n.2 }) k.here k.own_place);
     filed = filed_made (touch_of_place w (store.spare (part p)) (File file page) kind) k.filed;
     ready = λ home r stands. (let u = k.used r in used_within store part home p q (subst (λ (n : ℕ). IsUsed store n (part p) (part q)) (stands_home k.home u.1 home stands) u.0));
   }

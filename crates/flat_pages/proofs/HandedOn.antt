@@ -13,17 +13,17 @@ use Rattle.flat_pages.specs.SlotMeaning.{filed_in, slots_meaning, within, place_
 module _ {P S : Type 0} (store : StoreMeaning S) (part : P → S) where
   -- a store that ends a transfer ends it for the pages
   ends_within : (need : Need) (p q : P) → Ends store need (part p) (part q) → Ends (within store part) need p q
-  ends_within need p q e = record { transfer = e.transfer; oldest = e.oldest; told = e.told; moved = e.moved; homes = e.homes; spare = e.spare; untold = e.untold; holds = e.holds; members = e.members; came = e.came; went = e.went }
+  ends_within need p q e = record { transfer = e.transfer; oldest = e.oldest; told = e.told; moved = e.moved; taken = e.taken; homes = e.homes; frames = e.frames; spare = e.spare; untold = e.untold; holds = e.holds; members = e.members; found = e.found; tenants = e.tenants; came = e.came; went = e.went }
 
   framed_within : (p q : P) → StaysFramed store (part p) (part q) → StaysFramed (within store part) p q
-  framed_within p q s = record { spare = s.spare; found = s.found; tenant = s.tenant; members = s.members }
+  framed_within p q s = record { frames = s.frames; spare = s.spare; found = s.found; tenant = s.tenant; members = s.members }
 
   -- a use of a page of the store is one for the pages
   pub used_within : (home : ℕ) (p q : P) → IsUsed store home (part p) (part q) → IsUsed (within store part) home p q
   used_within home p q u = record { framed = framed_within p q u.framed; rescued = record { queue = u.rescued.queue; untold = u.rescued.untold }; holds = u.holds; ages = u.ages }
 
   stays_within : (p q : P) → StaysThere store (part p) (part q) → StaysThere (within store part) p q
-  stays_within p q s = record { homes = s.homes; framed = framed_within p q s.framed; ages = s.ages }
+  stays_within p q s = record { homes = s.homes; framed = framed_within p q s.framed; ages = s.ages; uses = s.uses }
 
   pub completes_within : {D : Type 0} (faults reads writes pages : D → ℕ) (result : Completed) (p q : P) (drum drum' : D) → (part q ≡ part p → q ≡ p) → Completes store faults reads writes pages result (part p) (part q) drum drum' → Completes (within store part) faults reads writes pages result p q drum drum'
   completes_within faults reads writes pages result p q drum drum' back c = record {
@@ -53,6 +53,7 @@ module _ {P S : Type 0} (store : StoreMeaning S) (part : P → S) where
       lives = λ i. (slots_meaning store (λ (t : Tables). part p) (λ t. t)).lives (same i);
       forks = λ i. living_of (same i).maps;
       serials = λ i. serial_of (same i).serials;
+      count = λ i. (same i).taken + (same i).living;
       most = λ i. (same i).limit;
     }
 
@@ -60,7 +61,6 @@ module _ {P S : Type 0} (store : StoreMeaning S) (part : P → S) where
     stays_same = record {
       plain = λ d fits. (subst (λ (t : Tables). FitsHomes t.places d) (sym same) fits, ap (λ (t : Tables). plain_of t d) same);
       put = stays_put;
-      count = λ i. (same i).taken + (same i).living;
     }
 
     -- a use of a page changes nothing of them
@@ -69,6 +69,5 @@ module _ {P S : Type 0} (store : StoreMeaning S) (part : P → S) where
       fits = λ d. (λ fits. subst (λ (t : Tables). FitsHomes t.places d) (sym same) fits, λ fits. subst (λ (t : Tables). FitsHomes t.places d) same fits);
       plain = λ i d. plain_of (same i) d;
       put = stays_put;
-      count = λ i. (same i).taken + (same i).living;
       loses = loses;
     }

@@ -1,23 +1,25 @@
 -- The homes that a map which is added, and one that goes, leaves to all others.
-use Rattle.std.proofs.Common.{◌≡◌, ◌≢◌, ◌⊎◌, inl, inr, ℕ, List, Option, None, Some, refl, sym, ◌∙◌, ap, arith}
+use Rattle.std.proofs.Common.{◌≡◌, ◌≢◌, ◌⊎◌, inl, inr, ℕ, List, true, Option, None, Some, refl, sym, ◌∙◌, ap, arith}
 use Rattle.std.specs.Option.{option_map, option_and_then, unwrap_or}
 use Rattle.std.specs.FinMap as fin
 use Rattle.machine_names.specs.Orders.{FilePage, file_page}
-use Rattle.flat_pages.specs.FileSteps.{FileHas}
+use Rattle.flat_pages.specs.FileSteps.{FileHas, IsFiled}
 use Rattle.flat_pages.proofs.FiledHomes.{get_filed}
 use Rattle.machine_names.specs.declared.names.Access.{Access}
 use Rattle.machine_names.specs.declared.names.ForkName.{ForkName}
 use Rattle.machine_names.specs.declared.names.PageName.{PageName}
+use Rattle.machine_names.specs.declared.names.Place.{Place}
+use Rattle.machine_names.specs.declared.names.Slot.{Slot}
 use Rattle.page_homes.specs.declared.homes.Home.{Home}
 use Rattle.plain_pages.specs.declared.map.MapEntry.TheVariants.{Names}
 use Rattle.page_contracts.specs.declared.answers.Seen.TheVariants.{Is}
-use Rattle.page_contracts.specs.Pages.{AddsMap, DropsFile, DropsMap, FileNames, IsOfFile, IsOfMap, NamesPage, PagesMeaning}
-use Rattle.page_contracts.specs.Stores.{StoreMeaning, free, place}
+use Rattle.page_contracts.specs.Pages.{AddsMap, DropsFile, DropsMap, EntryNames, FileNames, IsOfFile, IsOfMap, NamesPage, PagesMeaning, SetsEntry, SetsFile, SettlesHome, StandsAt}
+use Rattle.page_contracts.specs.Stores.{StoreMeaning, free, is_here, place}
 use Rattle.flat_pages.specs.declared.held_entry.HeldEntry.{HeldEntry}
 use Rattle.flat_pages.specs.declared.held_entry.HeldEntry.TheVariants.{Empty, Page, Follows}
 use Rattle.flat_pages.specs.HeldMaps.{entry_of, held_entry, index_of, name_at, name_of, nobody}
 use Rattle.flat_pages.specs.Emptying.{MapNames}
-use Rattle.flat_pages.specs.SlotSteps.{HomeStays}
+use Rattle.flat_pages.specs.SlotSteps.{HomeStays, NamesHome}
 use Rattle.flat_pages.specs.SlotMeaning.{filed_in, seen_entry, seen_in, slots_meaning}
 use Rattle.flat_pages.specs.SlotTables.{Tables, AreTables}
 use Rattle.flat_pages.specs.SlotTouches.{home_named}
@@ -167,4 +169,66 @@ module _ {P S : Type 0} (store : StoreMeaning S) (part : P → S) (tables : P �
       frames = λ none. (let same = frames (λ home m. (let n = file_name home m in none n.0 (filed_page home n.0 n.1 m))) in omega (arith, same));
       gone = λ page. get_filed u.names u.files (file_page file page) ∙ ap (option_map (name_of u.names)) (gone_all page);
       filed = filed;
+    }
+
+  -- an entry was set
+  module _ (a : AreTables t) (a' : AreTables u) (slot : Slot) (k : ℕ) (index : index_of t.maps slot.fork ≡ Some k) (old_homes : store.homes (part old) ≡ t.places) (new_homes : store.homes (part new) ≡ u.places)
+      (stays : (home : ℕ) → HomeStays t u home (NamesHome t.maps (record { map = k; page = slot.page }) home)) where
+    -- a page whose home the entry names is named by it
+    entry_page : (home : ℕ) (n : PageName) → name_at t.names home ≡ Some n → NamesHome t.maps (record { map = k; page = slot.page }) home → EntryNames means old slot n
+    entry_page home n named m = record {
+      access = m.access;
+      is = ap (λ (o : Option ℕ). seen_entry t (option_and_then (λ j. held_entry t.maps (record { map = j; page = slot.page })) o)) index
+          ∙ ap (seen_entry t) m.is ∙ ap (λ (o : Option PageName). Is (Names (unwrap_or o nobody) m.access)) named;
+    }
+
+    pub sets_entry : SetsEntry means slot old new
+    sets_entry = record {
+      homes = λ home none. elim (home_stays a a' (NamesHome t.maps (record { map = k; page = slot.page })) (EntryNames means old slot) entry_page stays old_homes new_homes home) [
+        | inl same ↦ inl same
+        | inr given ↦ (let n = entry_named t a (record { map = k; page = slot.page }) (record { 0 = home }) given.1.access given.1.is in
+            inr (given.0, (n.0, housed a a' (NamesHome t.maps (record { map = k; page = slot.page })) (EntryNames means old slot) entry_page stays home n.0 n.1, entry_page home n.0 n.1 given.1)))
+      ];
+      map = λ home is. absurd (cc is);
+      pages = page_stays a a' (NamesHome t.maps (record { map = k; page = slot.page })) (EntryNames means old slot) entry_page stays;
+      maps = refl;
+    }
+
+  -- a page of a file was set
+  module _ (a : AreTables t) (a' : AreTables u) (fp : FilePage ℕ) (old_homes : store.homes (part old) ≡ t.places) (new_homes : store.homes (part new) ≡ u.places) (stays : (home : ℕ) → HomeStays t u home (IsFiled t.files fp home)) where
+    -- a page whose home the file names is named by it
+    one_filed : (home : ℕ) (n : PageName) → name_at t.names home ≡ Some n → IsFiled t.files fp home → filed_in t fp ≡ Some n
+    one_filed home n named m = get_filed t.names t.files fp ∙ ap (option_map (name_of t.names)) m ∙ ap (λ (o : Option PageName). Some (unwrap_or o nobody)) named
+
+    pub sets_file : SetsFile means fp old new
+    sets_file = record {
+      homes = λ home. elim (home_stays a a' (IsFiled t.files fp) (λ n. filed_in t fp ≡ Some n) one_filed stays old_homes new_homes home) [
+        | inl same ↦ inl same
+        | inr given ↦ (let n = filed_named t a fp (record { 0 = home }) given.1 in
+            inr (given.0, (n.0, housed a a' (IsFiled t.files fp) (λ m. filed_in t fp ≡ Some m) one_filed stays home n.0 n.1, one_filed home n.0 n.1 given.1)))
+      ];
+      pages = page_stays a a' (IsFiled t.files fp) (λ n. filed_in t fp ≡ Some n) one_filed stays;
+      maps = refl;
+    }
+
+  -- the page of a place was used or made, at a home: each other home has its page and name
+  module _ (a : AreTables t) (a' : AreTables u) (at : Place) (home : ℕ) (old_homes : store.homes (part old) ≡ t.places) (new_homes : store.homes (part new) ≡ u.places)
+      (places : (k : ℕ) → k ≢ home → place u.places k ≡ place t.places k) (names : (k : ℕ) → k ≢ home → name_at u.names k ≡ name_at t.names k) where
+    pub settles_home : StandsAt means new at home → is_here (place (store.homes (part new)) home) ≡ true → (place t.places home ≡ free) ⊎ (place u.places home ≡ place t.places home) → SettlesHome means at old new
+    settles_home stands there own = record {
+      home = home;
+      stands = stands;
+      here = there;
+      own = elim own [
+        | inl none ↦ inl (ap (λ ps. place ps home) old_homes ∙ none)
+        | inr same ↦ inr (ap (λ ps. place ps home) new_homes ∙ same ∙ sym (ap (λ ps. place ps home) old_homes))
+      ];
+      fork = None;
+      map = λ k is. absurd (cc is);
+      others = λ k ne apart. ap (λ ps. place ps k) new_homes ∙ places k ne ∙ sym (ap (λ ps. place ps k) old_homes);
+      pages = λ n k ne. (
+        λ is. (let named : name_at t.names k ≡ Some n = sym (names k ne) ∙ named_home u.names n k is in home_is t.names k n named (λ j e. a.once j k n e named)),
+        λ is. (let named : name_at u.names k ≡ Some n = names k ne ∙ named_home t.names n k is in home_is u.names k n named (λ j e. a'.once j k n e named)),
+      );
+      maps = refl;
     }

@@ -268,3 +268,7 @@ module _ {pages : List StoredPage} {homes : List Home} {spare : ℕ} (s : AreSto
 
   pub made_spare : (h : ℕ) (words : List ℕ) → h ≡ free_at homes (spare - 1) → IsPage words → free_homes (places_of (slice_set pages h (record { taken = true; words = words }))) + 1 ≡ free_homes (places_of pages)
   made_spare h words is fits = let t = make_stored s h words spare_some is fits in omega (arith, t.count, s.count, spare_some)
+
+-- each other page is found where it was
+pub found_other : (ps qs : List HomePlace) (home : ℕ) (p : HomePlace) → qs ≡ slice_set ps home p → (other : ℕ) → other ≢ home → found_at qs other ≡ found_at ps other
+found_other ps qs home p is other ne = ap (λ (x : HomePlace). cond (is_taken x) (Some (let f : Found = record { 0 = other } in f)) None) (ap (λ (xs : List HomePlace). place xs other) is ∙ get_or-set_other ps home other p free ne)

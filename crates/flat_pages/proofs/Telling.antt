@@ -25,7 +25,7 @@ use Rattle.flat_pages.specs.SlotMeaning.{AreTold, filed_in}
 use Rattle.flat_pages.proofs.FiledHomes.{get_filed}
 use Rattle.flat_pages.proofs.ForkMaps.{searched}
 use Rattle.flat_pages.proofs.LivingMaps.{lives_held}
-use Rattle.flat_pages.proofs.Agreement.{Housed, housed, filed_named, tables_whole, tables_live, tables_objects, object_home, object_gone}
+use Rattle.flat_pages.proofs.Agreement.{Housed, housed, filed_named, tables_whole, tables_live, tables_objects, object_home, object_gone, object_some}
 use Rattle.flat_pages.proofs.Touching.{home_is as home_found}
 use Rattle.flat_pages.proofs.Settling.{sized_of}
 
@@ -139,4 +139,5 @@ tables_told t a pages = record {
   homes = a.homes;
   objects = λ d fits. omega (arith, taken_or_free t.places, a.free, a.homes, tables_objects t a d (sized_of t.places d fits pages));
   mapped = λ home e. cc e;
+  words = λ d n home is. object_some (content t.places d) t.names a.once home n (named_home t.names n home is);
 }

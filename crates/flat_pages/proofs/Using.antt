@@ -1,5 +1,5 @@
 -- Which page of a store a call on places uses, and what a touch needs first.
-use Rattle.std.proofs.Common.{◌≡◌, ℕ, List, true, false, Bool, cond, Option, None, Some, is_some, refl, sym, ◌∙◌, ap, subst, arith}
+use Rattle.std.proofs.Common.{◌≡◌, ◌≢◌, ◌⊎◌, ℕ, List, true, false, Bool, cond, Option, None, Some, is_some, refl, sym, ◌∙◌, ap, subst, arith}
 use Rattle.std.specs.Prelude.{nat_le, nat_lt, ◌+◌, ◌≤◌}
 use Rattle.std.specs.Option.{option_map, option_and_then, unwrap_or}
 use Rattle.std.specs.FinMap as fin
@@ -17,11 +17,11 @@ use Rattle.page_contracts.specs.declared.answers.Found.{Found}
 use Rattle.page_contracts.specs.declared.answers.SpaceHandle.{SpaceHandle}
 use Rattle.page_contracts.specs.declared.answers.Touch.{Touch}
 use Rattle.page_contracts.specs.declared.answers.Touch.TheVariants.{Ready, Zero, Copy, NeedFrame, Full}
-use Rattle.page_contracts.specs.Pages.{FilesMade, PagesMeaning, StandsAt, StandsInSpace, TouchNeeds, UsesPlace, absent_or, framed, is_in_core, map_set, spot_of}
+use Rattle.page_contracts.specs.Pages.{FilesMade, PagesMeaning, SettlesHome, StandsAt, StandsInSpace, TouchNeeds, UsesPlace, absent_or, framed, is_in_core, map_set, spot_of}
 use Rattle.page_contracts.specs.Stores.{StoreMeaning, HomePlace, free, away, here, IsMade, IsSound, IsUsed, RenewsOne, away_at, away_home, free_homes, is_here, is_taken, place, traffic}
 use Rattle.flat_pages.specs.declared.chain_walk.Walk.{Walk}
 use Rattle.flat_pages.specs.declared.held_entry.EntryAt.{EntryAt}
-use Rattle.flat_pages.specs.HeldMaps.{index_of, held_entry, name_of, nobody}
+use Rattle.flat_pages.specs.HeldMaps.{index_of, held_entry, name_at, name_of, nobody}
 use Rattle.flat_pages.specs.SlotMeaning.{filed_in, place_along, slots_meaning, within}
 use Rattle.flat_pages.specs.SlotTables.{Tables, files_held, AreTables}
 use Rattle.flat_pages.specs.Walks.{walk}
@@ -32,6 +32,7 @@ use Rattle.flat_pages.proofs.Agreement.{filed_named}
 use Rattle.flat_pages.proofs.FiledHomes.{get_filed}
 use Rattle.flat_pages.proofs.Touching.{home_is}
 use Rattle.flat_pages.proofs.HandedOn.{used_within}
+use Rattle.flat_pages.proofs.MapHomes.{settles_home}
 use Rattle.flat_pages.proofs.Settled.{EndsAt}
 
 -- where the page of a living fork's slot is found is told by the walk along its chain
@@ -126,6 +127,11 @@ module _ {P S : Type 0} (store : StoreMeaning S) (part : P → S) (tables : P �
     set = λ d fits. no_map_home (map_set (next_making (means.plain p d) (spot_of at) kind));
     ages = renews;
   }
+
+  -- and each other home has what it had
+  pub settles_there : AreTables (tables p) → AreTables (tables q) → store.homes (part p) ≡ (tables p).places → store.homes (part q) ≡ (tables q).places → ((k : ℕ) → k ≢ h.0 → place (tables q).places k ≡ place (tables p).places k)
+      → ((k : ℕ) → k ≢ h.0 → name_at (tables q).names k ≡ name_at (tables p).names k) → (place (tables p).places h.0 ≡ free) ⊎ (place (tables q).places h.0 ≡ place (tables p).places h.0) → SettlesHome means at p q
+  settles_there a a' old_homes new_homes places names own = settles_home store part tables p q s.fork a a' at h.0 old_homes new_homes places names stands_there there own
 
 -- a place of a fork's space leaves what files name
 module _ {P S : Type 0} (store : StoreMeaning S) (part : P → S) (tables : P → Tables) (p q : P) where

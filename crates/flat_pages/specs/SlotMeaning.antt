@@ -15,7 +15,7 @@ use Rattle.page_contracts.specs.declared.answers.Seen.TheVariants.{Is, Missing}
 use Rattle.page_contracts.specs.DrumWords.{DrumWords}
 use Rattle.plain_pages.specs.Room.{live}
 use Rattle.plain_pages.specs.WholePages.{AreWhole}
-use Rattle.page_contracts.specs.Stores.{StoreMeaning, IsSound, CanLeave, IsNext, AllStay, FitsHomes, HomePlace, away, away_of, is_taken, place}
+use Rattle.page_contracts.specs.Stores.{StoreMeaning, content, IsSound, CanLeave, IsNext, AllStay, FitsHomes, HomePlace, away, away_of, is_taken, place}
 use Rattle.page_contracts.specs.Pages.{PagesMeaning, Agrees, AreHoused, Housed, a_map, a_page, home_for}
 use Rattle.flat_pages.specs.declared.held_entry.HeldEntry.{HeldEntry}
 use Rattle.flat_pages.specs.Serials.{serial_of}
@@ -44,6 +44,7 @@ filed_in t = map.get (files_held t.names t.files)
 abbrev pub within : {P S : Type 0} → StoreMeaning S → (P → S) → StoreMeaning P
 within store part = record {
   homes = λ p. store.homes (part p);
+  frames = λ p. store.frames (part p);
   spare = λ p. store.spare (part p);
   queue = λ p. store.queue (part p);
   untold = λ p. store.untold (part p);
@@ -51,6 +52,7 @@ within store part = record {
   tenant = λ p. store.tenant (part p);
   victim = λ p. store.victim (part p);
   age = λ p. store.age (part p);
+  uses = λ p. store.uses (part p);
   found = λ p. store.found (part p);
   members = λ p. store.members (part p);
   flat = store.flat;
@@ -96,6 +98,7 @@ pub record AreTold (t : Tables) : Type 0 where
   pub homes : length t.places ≡ t.limit
   pub objects : (d : DrumWords) → FitsHomes t.places d → count_by is_taken t.places ≡ map.len (plain_of t d).objects
   pub mapped : (home : ℕ) → ◌≡◌ {A = Option ℕ} None (Some home) → ⊥
+  pub words : (d : DrumWords) (n : PageName) (home : ℕ) → home_named t.names n ≡ Some home → map.get (plain_of t d).objects n ≡ content t.places d home
 
 module _ {P S : Type 0} (store : StoreMeaning S) (part : P → S) where
   leaves : (p : P) (frame home : ℕ) → CanLeave (within store part) p frame home → CanLeave store (part p) frame home
@@ -125,6 +128,16 @@ module _ {P S : Type 0} (store : StoreMeaning S) (part : P → S) where
     once = s.once;
     held = s.held;
     unmoved = s.unmoved;
+    shared = s.shared;
+    seated = λ flat home is. (let f = s.seated flat home is in record { frame = f.frame; is = f.is });
+    given = s.given;
+    single = s.single;
+    members = s.members;
+    few_held = s.few_held;
+    none_held = s.none_held;
+    held_once = s.held_once;
+    numbered = s.numbered;
+    aged = s.aged;
     next = next_within p (store.victim (part p)) s.next;
     core = s.core;
     still = s.still;

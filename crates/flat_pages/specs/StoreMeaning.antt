@@ -1,7 +1,7 @@
 -- What the clauses of stores say of one in memory.
-use Rattle.std.specs.Prelude.{◌≡◌, ℕ, ◌-◌, ◌^◌, ◌≤◌, List, [], length, Bool, true, false, if◌then◌else◌, Option, None, Some, is_some, slice_set}
+use Rattle.std.specs.Prelude.{◌≡◌, ℕ, ◌+◌, ◌-◌, ◌^◌, ◌≤◌, List, [], ◌∷◌, count_by, length, Bool, true, false, if◌then◌else◌, Option, None, Some, is_some, slice_set}
 use Rattle.std.specs.Option.{option_map_or}
-use Rattle.std.proofs.Common.{refl, sym, ◌∙◌, ap, subst}
+use Rattle.std.proofs.Common.{refl, sym, ◌∙◌, ap, subst, arith}
 use Rattle.std.proofs.Math.ListN.{get_or-map}
 use Rattle.std.proofs.Math.Nat.{le_of_sub-eq-zero, not-suc-le-zero}
 use Rattle.std.proofs.lemmas.Bool.{true≢false}
@@ -9,7 +9,8 @@ use Rattle.std.proofs.lemmas.List.{length-map, map-set}
 use Rattle.outside.specs.Drums.{IsPage}
 use Rattle.page_homes.specs.declared.homes.TheConstants.{MOST_HOMES}
 use Rattle.page_contracts.specs.declared.answers.Found.{Found}
-use Rattle.page_contracts.specs.Stores.{StoreMeaning, IsSound, HomePlace, free, here, place, is_taken, is_here, free_homes}
+use Rattle.page_contracts.specs.Stores.{StoreMeaning, IsSound, HomePlace, free, here, place, is_arrival, is_free, is_taken, is_here, free_homes}
+use Rattle.page_contracts.proofs.Sums.{count_cons, one_if}
 use Rattle.flat_pages.specs.declared.flat_store.FlatStore.{FlatStore}
 use Rattle.flat_pages.specs.StoredLists.{pages_of}
 use Rattle.flat_pages.specs.StoredPages.{StoredPage, free_page, stored_at, place_of, places_of, found_at}
@@ -82,6 +83,15 @@ found_there false h found e = absurd (true≢false (sym (ap is_some e)))
 apart_is : (pages : List StoredPage) (h k : ℕ) (found : Found) → found_at (places_of pages) h ≡ Some found → found_at (places_of pages) k ≡ Some found → h ≡ k
 apart_is pages h k found e f = found_there (is_taken (place (places_of pages) h)) h found e ∙ sym (found_there (is_taken (place (places_of pages) k)) k found f)
 
+-- each home is free, or its page is in memory
+here_or_free : (pages : List StoredPage) → free_homes (places_of pages) + count_by is_here (places_of pages) ≡ length (places_of pages)
+here_or_free [] = refl
+here_or_free (p ∷ ps) = (let own = one p.taken in let rest = here_or_free ps in omega (arith, own, rest, count_cons is_free (place_of p) (places_of ps), count_cons is_here (place_of p) (places_of ps)))
+  where
+    one : (b : Bool) → one_if (is_free (if b then here p.words else free)) + one_if (is_here (if b then here p.words else free)) ≡ 1
+    one true = refl
+    one false = refl
+
 none_counted : 0 ≤ 1
 none_counted = le_of_sub-eq-zero refl
 
@@ -89,6 +99,7 @@ none_counted = le_of_sub-eq-zero refl
 abbrev pub flat_meaning : StoreMeaning FlatStore
 flat_meaning = record {
   homes = λ s. places_of (pages_of s.pages);
+  frames = λ s. length (places_of (pages_of s.pages));
   spare = λ s. free_homes (places_of (pages_of s.pages));
   queue = λ s. [];
   untold = λ s. [];
@@ -96,6 +107,7 @@ flat_meaning = record {
   tenant = λ s frame. None;
   victim = λ s. None;
   age = λ s frame. 0;
+  uses = λ s. 0;
   found = λ s. found_at (places_of (pages_of s.pages));
   members = λ s. 2 ^ 32 - 1;
   flat = true;
@@ -113,6 +125,16 @@ flat_sound s = record {
   once = λ home. none_counted;
   held = λ holder home is. absurd (not-suc-le-zero is.1);
   unmoved = λ holder home is. absurd (not-suc-le-zero is.1);
+  shared = (let none : count_by is_arrival [] ≡ 0 = refl in omega (arith, here_or_free (pages_of s.pages), none));
+  seated = λ flat home is. absurd (true≢false flat);
+  given = λ frame home is. absurd (true≢false (sym (ap is_some is)));
+  single = λ frame other home is it. absurd (true≢false (sym (ap is_some is)));
+  members = λ flat. absurd (true≢false flat);
+  few_held = λ holder. omega arith;
+  none_held = λ holder past apart. refl;
+  held_once = λ holder home. none_counted;
+  numbered = omega arith;
+  aged = λ frame some. absurd (true≢false (sym some));
   next = λ frame home leaves. true≢false (sym (ap is_some leaves.there));
   core = λ flat home. core_is (pages_of s.pages) home;
   still = λ flat. refl;

@@ -681,5 +681,7 @@ impl<S: Store> Pages for FlatSlots<S> {
 
     ghost whole = { λ s d fits. s.told.whole d fits };
 
+    ghost there = { λ s d fits. s.told.words d };
+
     ghost none_lives = { λ s f none. s.told.alone f none };
 }

@@ -22,7 +22,7 @@ use Rattle.ka10_in_place.proofs.Stored.{lost_none, lost_on}
 module _ {P : Type 0} (means : PagesMeaning P) where
   -- pages that stay as they are
   pub stays_put : (s : P) → StaysPut means s s
-  stays_put s = record { touched = refl; scene = refl; space = refl; place = refl; filed = refl; map_homes = refl; page_homes = refl; lives = refl; forks = refl; serials = refl; most = refl }
+  stays_put s = record { touched = refl; scene = refl; space = refl; place = refl; filed = refl; map_homes = refl; page_homes = refl; lives = refl; forks = refl; serials = refl; count = refl; most = refl }
 
   pub stays_on : (r s t : P) → StaysPut means r s → StaysPut means s t → StaysPut means r t
   stays_on r s t g h = record {
@@ -36,18 +36,18 @@ module _ {P : Type 0} (means : PagesMeaning P) where
     lives = h.lives ∙ g.lives;
     forks = h.forks ∙ g.forks;
     serials = h.serials ∙ g.serials;
+    count = h.count ∙ g.count;
     most = h.most ∙ g.most;
   }
 
   pub uses_none : (s : P) → OnlyUses means s s
-  uses_none s = record { fits = λ d. (λ h. h, λ h. h); plain = refl; put = stays_put s; count = refl; loses = lost_none means s }
+  uses_none s = record { fits = λ d. (λ h. h, λ h. h); plain = refl; put = stays_put s; loses = lost_none means s }
 
   pub uses_on : (r s t : P) → OnlyUses means r s → OnlyUses means s t → OnlyUses means r t
   uses_on r s t u v = record {
     fits = λ d. (λ h. (v.fits d).0 ((u.fits d).0 h), λ h. (u.fits d).1 ((v.fits d).1 h));
     plain = v.plain ∙ u.plain;
     put = stays_on r s t u.put v.put;
-    count = v.count ∙ u.count;
     loses = lost_on means r s t u.loses v.loses;
   }
 

@@ -126,5 +126,6 @@ stays_on means old mid new g h = record {
   lives = h.lives ∙ g.lives;
   forks = h.forks ∙ g.forks;
   serials = h.serials ∙ g.serials;
+  count = h.count ∙ g.count;
   most = h.most ∙ g.most;
 }

@@ -8,10 +8,10 @@ use Rattle.flat_pages.specs.SlotMeaning.{within}
 
 module _ {P S : Type 0} (store : StoreMeaning S) (part : P → S) where
   ends_within : (need : Need) (p q : P) → Ends store need (part p) (part q) → Ends (within store part) need p q
-  ends_within need p q e = record { transfer = e.transfer; oldest = e.oldest; told = e.told; moved = e.moved; homes = e.homes; spare = e.spare; untold = e.untold; holds = e.holds; members = e.members; came = e.came; went = e.went }
+  ends_within need p q e = record { transfer = e.transfer; oldest = e.oldest; told = e.told; moved = e.moved; taken = e.taken; homes = e.homes; frames = e.frames; spare = e.spare; untold = e.untold; holds = e.holds; members = e.members; found = e.found; tenants = e.tenants; came = e.came; went = e.went }
 
   stays_within : (p q : P) → StaysThere store (part p) (part q) → StaysThere (within store part) p q
-  stays_within p q s = record { homes = s.homes; framed = record { spare = s.framed.spare; found = s.framed.found; tenant = s.framed.tenant; members = s.framed.members }; ages = s.ages }
+  stays_within p q s = record { homes = s.homes; framed = record { frames = s.framed.frames; spare = s.framed.spare; found = s.framed.found; tenant = s.framed.tenant; members = s.framed.members }; ages = s.ages; uses = s.uses }
 
 -- where nothing ends nothing changes
 pub completed_within : {P S D : Type 0} (store : StoreMeaning S) (part : P → S) (faults reads writes pages : D → ℕ) (result : Completed) (p q : P) (drum drum' : D) → (result ≡ Nothing → part q ≡ part p → q ≡ p)

@@ -1,5 +1,6 @@
 pub mod WithinPages
 pub mod PlacesUsed
+pub mod PlacesKept
 pub mod OtherMaps
 pub mod MapsAdded
 pub mod MapsDropped

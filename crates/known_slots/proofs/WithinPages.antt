@@ -21,15 +21,16 @@ module _ {Q P S : Type 0} (store : StoreMeaning S) (part : P → S) (beside : P 
     lives = s.lives;
     forks = s.forks;
     serials = s.serials;
+    count = s.count;
     most = s.most;
   }
 
   pub only_within : (p q : Q) → OnlyUses (paged_slots store part beside) (pages p) (pages q) → OnlyUses (paged_slots store (λ r. part (pages r)) (λ r. beside (pages r))) p q
-  only_within p q o = record { fits = o.fits; plain = o.plain; put = put_within p q o.put; count = o.count; loses = o.loses }
+  only_within p q o = record { fits = o.fits; plain = o.plain; put = put_within p q o.put; loses = o.loses }
 
   pub uses_within : (home : ℕ) (p q : Q) → IsUsed (within store part) home (pages p) (pages q) → IsUsed (within store (λ r. part (pages r))) home p q
   uses_within home p q u = record {
-    framed = record { spare = u.framed.spare; found = u.framed.found; tenant = u.framed.tenant; members = u.framed.members };
+    framed = record { frames = u.framed.frames; spare = u.framed.spare; found = u.framed.found; tenant = u.framed.tenant; members = u.framed.members };
     rescued = record { queue = u.rescued.queue; untold = u.rescued.untold };
     holds = u.holds;
     ages = u.ages;

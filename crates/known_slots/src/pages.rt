@@ -13,7 +13,7 @@ use word36::Word;
 
 impl<S: Store> Pages for KnownSlots<S> {
     ghost use Rattle.slot_paged.specs.PagedSlots.{paged_slots};
-    ghost use Rattle.slot_paged.proofs.HousedPages.{paged_agrees, paged_alone, paged_housed, paged_whole};
+    ghost use Rattle.slot_paged.proofs.HousedPages.{paged_agrees, paged_alone, paged_housed, paged_there, paged_whole};
 
     ghost means = { paged_slots S.means (λ p. p.pages.store) (λ p. beside_of p.pages.tables) };
 
@@ -154,6 +154,8 @@ impl<S: Store> Pages for KnownSlots<S> {
     ghost agrees = { λ s d fits. paged_agrees S.means (λ p. p.pages.store) (λ p. beside_of p.pages.tables) s s.pages.kept (S.sound s.pages.store) d fits };
 
     ghost whole = { λ s d fits. paged_whole S.means (λ p. p.pages.store) (λ p. beside_of p.pages.tables) s s.pages.kept (S.sound s.pages.store) d fits };
+
+    ghost there = { λ s d fits. paged_there S.means (λ p. p.pages.store) (λ p. beside_of p.pages.tables) s s.pages.kept (S.sound s.pages.store) d fits };
 
     ghost none_lives = { λ s f none. paged_alone (beside_of s.pages.tables) f none };
 }

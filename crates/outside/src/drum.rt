@@ -49,6 +49,7 @@ pub trait Drum {
         ensures held { Keeps (held self.old) (held self.new) }
         ensures counted { OnOk result (CountsUp (read_count self.old) (read_count self.new)) }
         ensures uncounted { OnErr result (read_count self.new ≡ read_count self.old) }
+        ensures reads_later { read_count self.old ≤ read_count self.new }
         ensures writes { write_count self.new ≡ write_count self.old }
         ensures size { size self.new ≡ size self.old };
 
@@ -63,6 +64,7 @@ pub trait Drum {
         ensures spoiled { OnErr result (Spoils (held self.old) (held self.new) page) }
         ensures counted { OnOk result (CountsUp (write_count self.old) (write_count self.new)) }
         ensures uncounted { OnErr result (write_count self.new ≡ write_count self.old) }
+        ensures writes_later { write_count self.old ≤ write_count self.new }
         ensures reads { read_count self.new ≡ read_count self.old }
         ensures size { size self.new ≡ size self.old };
 

@@ -157,6 +157,7 @@ impl Drum for FileDrum {
         ensures page { OnOk result (IsPage words.new) }
         ensures counted { OnOk result (CountsUp self.old.reads self.new.reads) }
         ensures uncounted { OnErr result (self.new.reads ≡ self.old.reads) }
+        ensures reads_later { self.old.reads ≤ self.new.reads }
         ensures writes { self.new.writes ≡ self.old.writes }
     {
         if let Err(error) = read_page(&mut self.file, page, words) {
@@ -173,6 +174,7 @@ impl Drum for FileDrum {
         ensures fault { FailsCounted result self.old.faults self.new.faults self.old.error self.new.error }
         ensures counted { OnOk result (CountsUp self.old.writes self.new.writes) }
         ensures uncounted { OnErr result (self.new.writes ≡ self.old.writes) }
+        ensures writes_later { self.old.writes ≤ self.new.writes }
         ensures reads { self.new.reads ≡ self.old.reads }
     {
         if let Err(error) = write_page(&mut self.file, page, words) {

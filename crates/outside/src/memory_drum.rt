@@ -44,6 +44,7 @@ impl HeldPages {
         ensures words { words.new ≡ page_at self.old.pages.items page }
         ensures page { IsPage words.new }
         ensures reads { CountsUp self.old.reads self.new.reads }
+        ensures reads_later { self.old.reads ≤ self.new.reads }
         ensures writes { self.new.writes ≡ self.old.writes }
         ensures pages { self.new.pages ≡ self.old.pages }
         ensures number { self.new.number ≡ self.old.number }
@@ -58,6 +59,7 @@ impl HeldPages {
         requires words { AreWords words.now }
         ensures pages { self.new.pages.items ≡ slice_set self.old.pages.items page words.now }
         ensures writes { CountsUp self.old.writes self.new.writes }
+        ensures writes_later { self.old.writes ≤ self.new.writes }
         ensures reads { self.new.reads ≡ self.old.reads }
         ensures number { self.new.number ≡ self.old.number }
     {
@@ -120,6 +122,7 @@ impl Drum for SureDrum {
         ensures words { words.new ≡ page_at self.old.held.pages.items page }
         ensures page { IsPage words.new }
         ensures reads { CountsUp self.old.held.reads self.new.held.reads }
+        ensures reads_later { self.old.held.reads ≤ self.new.held.reads }
         ensures writes { self.new.held.writes ≡ self.old.held.writes }
         ensures pages { self.new.held.pages ≡ self.old.held.pages }
         ensures size { self.new.held.number ≡ self.old.held.number }
@@ -134,6 +137,7 @@ impl Drum for SureDrum {
         ensures ok { IsOk result }
         ensures pages { self.new.held.pages.items ≡ slice_set self.old.held.pages.items page words.now }
         ensures writes { CountsUp self.old.held.writes self.new.held.writes }
+        ensures writes_later { self.old.held.writes ≤ self.new.held.writes }
         ensures reads { self.new.held.reads ≡ self.old.held.reads }
         ensures size { self.new.held.number ≡ self.old.held.number }
     {
@@ -224,6 +228,7 @@ impl Drum for MemDrum {
         ensures page { OnOk result (IsPage words.new) }
         ensures counted { OnOk result (CountsUp self.old.held.reads self.new.held.reads) }
         ensures uncounted { OnErr result (self.new.held.reads ≡ self.old.held.reads) }
+        ensures reads_later { self.old.held.reads ≤ self.new.held.reads }
         ensures writes { self.new.held.writes ≡ self.old.held.writes }
         ensures pages { self.new.held.pages ≡ self.old.held.pages }
         ensures size { self.new.held.number ≡ self.old.held.number }
@@ -250,6 +255,7 @@ impl Drum for MemDrum {
         ensures spoiled { OnErr result (Spoils (Some self.old.held.pages.items) (Some self.new.held.pages.items) page) }
         ensures unchanged { OnErr result (self.new.held ≡ self.old.held) }
         ensures writes { OnOk result (CountsUp self.old.held.writes self.new.held.writes) }
+        ensures writes_later { self.old.held.writes ≤ self.new.held.writes }
         ensures reads { self.new.held.reads ≡ self.old.held.reads }
         ensures size { self.new.held.number ≡ self.old.held.number }
     {

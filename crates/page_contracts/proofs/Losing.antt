@@ -1,13 +1,13 @@
 -- What calls lose of what is queued and held, one after another.
 use Rattle.std.proofs.Common.{◌≡◌, ◌≢◌, ◌⊎◌, inl, inr, ℕ, List, [], ◌∷◌, ◌++◌, Bool, true, false, cond, not, ◌==◌, refl, sym, ◌∙◌, ap, subst, arith, ◌≤◌}
-use Rattle.std.specs.Prelude.{◌||◌, ◌&&◌, ◌<◌, Option, None, Some, IsSome}
+use Rattle.std.specs.Prelude.{◌↔◌, ◌||◌, ◌&&◌, nat_lt, ◌+◌, Option, None, Some, IsSome}
 use Rattle.std.specs.List.{filter, list_any}
 use Rattle.std.specs.Option.{option_map_or}
 use Rattle.std.proofs.lemmas.Bool.Decides.{eqb_tells}
 use Rattle.page_homes.specs.declared.homes.Home.{Home}
 use Rattle.page_contracts.specs.declared.answers.Need.{Need}
 use Rattle.page_contracts.specs.declared.answers.Need.TheVariants.{Page, Frame}
-use Rattle.page_contracts.specs.Stores.{StoreMeaning, Transfer, arrival, departure, Traffic, Loses, Cancels, IsUsed, IsMade, IsFreed, arrives, departs, moves, need_of, noted, noted_all, same_need, traffic, without, CanFetch, IsNeeded, HomePlace, KeepsFrame, LAST_USE, Renews, RenewsLeft, RenewsNone, RenewsOne, RenewsSome, RenewsThere, tenant_left}
+use Rattle.page_contracts.specs.Stores.{StoreMeaning, Transfer, arrival, departure, Traffic, Loses, Cancels, IsUsed, IsMade, IsFreed, arrives, departs, moves, need_of, next_use, noted, noted_all, same_need, traffic, without, CanFetch, IsNeeded, HomePlace, KeepsFrame, Renews, RenewsLeft, RenewsNone, RenewsOne, RenewsSome, RenewsThere, tenant_left, LAST_USE, CountsAgain, RenewsAgain}
 
 or_assoc : (a b c : Bool) → ((a || b) || c) ≡ (a || (b || c))
 or_assoc true b c = refl
@@ -117,8 +117,9 @@ any_noted_all need (t ∷ ts) needs =
 pub renews_on : (t u v : Traffic) → RenewsSome t u → RenewsSome u v → RenewsSome t v
 renews_on t u v first then = record {
   renewed = λ frame. first.renewed frame || then.renewed frame;
-  others = λ frame not there. (let last = second frame (split frame not) there in before frame (split frame not) there last);
-  younger = λ frame other is not here there. by frame other (first.renewed frame) (then.renewed frame) refl refl is (split other not) here there;
+  others = λ frame not there. (let last = then.others frame (split frame not).1 there in let k = first.others frame (split frame not).0 (stood frame last there) in record { tenant = last.tenant ∙ k.tenant; age = last.age ∙ k.age });
+  younger = λ frame is there. by frame (then.renewed frame) refl is there;
+  grows = omega (arith, first.grows, then.grows);
 }
   where
     neither : (b c : Bool) → (b || c) ≡ false → (b ≡ false) × (c ≡ false)
@@ -128,56 +129,70 @@ renews_on t u v first then = record {
     split : (frame : ℕ) → (first.renewed frame || then.renewed frame) ≡ false → (first.renewed frame ≡ false) × (then.renewed frame ≡ false)
     split frame not = neither (first.renewed frame) (then.renewed frame) not
 
-    second : (frame : ℕ) → (first.renewed frame ≡ false) × (then.renewed frame ≡ false) → IsSome (v.tenant frame) → KeepsFrame u v frame
-    second frame not there = then.others frame not.1 there
-
     stood : (frame : ℕ) → KeepsFrame u v frame → IsSome (v.tenant frame) → IsSome (u.tenant frame)
     stood frame k there = subst IsSome k.tenant there
 
-    before : (frame : ℕ) → (first.renewed frame ≡ false) × (then.renewed frame ≡ false) → IsSome (v.tenant frame) → KeepsFrame u v frame → KeepsFrame t v frame
-    before frame not there k = (let j = first.others frame not.0 (stood frame k there) in record { tenant = k.tenant ∙ j.tenant; age = k.age ∙ j.age })
-
-    by : (frame other : ℕ) (b c : Bool) → first.renewed frame ≡ b → then.renewed frame ≡ c → (first.renewed frame || then.renewed frame) ≡ true → (first.renewed other ≡ false) × (then.renewed other ≡ false)
-        → IsSome (v.tenant frame) → IsSome (v.tenant other) → (v.age other < v.age frame) ⊎ (v.age frame ≡ LAST_USE)
-    by frame other b true first_is then_is is not here there = then.younger frame other then_is not.1 here there
-    by frame other false false first_is then_is is not here there = absurd (let z : false ≡ true = (λ i. sym first_is i || sym then_is i) ∙ is in cc z)
-    by frame other true false first_is then_is is not here there =
-        let k = then.others frame then_is here in
-        let j = second other not there in
-        elim (first.younger frame other first_is not.0 (stood frame k here) (stood other j there)) [
-          | inl less ↦ inl (omega (arith, less, k.age, j.age))
-          | inr last ↦ inr (k.age ∙ last)
-        ]
+    by : (frame : ℕ) (c : Bool) → then.renewed frame ≡ c → (first.renewed frame || then.renewed frame) ≡ true → IsSome (v.tenant frame) → t.uses ≤ v.age frame
+    by frame true then_is is there = (let young = then.younger frame then_is there in omega (arith, young, first.grows))
+    by frame false then_is is there =
+        let k = then.others frame then_is there in
+        let own : first.renewed frame ≡ true = or_none (first.renewed frame) ∙ ap (λ b. first.renewed frame || b) (sym then_is) ∙ is in
+        let young = first.younger frame own (stood frame k there) in
+        omega (arith, young, k.age)
 
 -- where no page was used none was
 pub renews_none : (t u : Traffic) → RenewsNone t u → RenewsSome t u
 renews_none t u none = record {
   renewed = λ frame. false;
-  others = λ frame not there. none frame there;
-  younger = λ frame other is not here there. absurd (cc is);
+  others = λ frame not there. none.kept frame there;
+  younger = λ frame is there. absurd (cc is);
+  grows = none.grows;
 }
 
 -- nor was any by two calls of which neither used one
 pub none_on : (t u v : Traffic) → RenewsNone t u → RenewsNone u v → RenewsNone t v
-none_on t u v first then frame there = (let k = then frame there in let j = first frame (subst IsSome k.tenant there) in record { tenant = k.tenant ∙ j.tenant; age = k.age ∙ j.age })
+none_on t u v first then = record {
+  kept = λ frame there. (let k = then.kept frame there in let j = first.kept frame (subst IsSome k.tenant there) in record { tenant = k.tenant ∙ j.tenant; age = k.age ∙ j.age });
+  grows = omega (arith, first.grows, then.grows);
+}
+
+-- a use is one, none again
+pub used_once : (home : ℕ) (tenant : ℕ → Option ℕ) (old new : ℕ → ℕ) (uses uses' : ℕ) → Renews home tenant old new uses uses' → RenewsAgain home tenant old new uses uses'
+used_once home tenant old new uses uses' ages = record {
+  counted = record {
+    own = λ frame is. (let own = ages.counted.own frame is in (omega (arith, own.0), own.1 ∙ ap next_use (sym own.0)));
+    grows = ages.counted.grows;
+  };
+  others = ages.others;
+}
 
 -- a home's page was used or made, and each other frame has its page
-renews_one : (t u : Traffic) (home : ℕ) → ((frame : ℕ) → (u.tenant frame ≡ Some home → ⊥) → u.tenant frame ≡ t.tenant frame) → Renews home u.tenant t.age u.age → RenewsOne home t u
-renews_one t u home tenants ages = record { youngest = ages.youngest; others = λ frame not. record { tenant = tenants frame not; age = ages.others frame not } }
+renews_one : (t u : Traffic) (home : ℕ) → ((frame : ℕ) → (u.tenant frame ≡ Some home → ⊥) → u.tenant frame ≡ t.tenant frame) → RenewsAgain home u.tenant t.age u.age t.uses u.uses → RenewsOne home t u
+renews_one t u home tenants ages = record { counted = ages.counted; others = λ frame not. record { tenant = tenants frame not; age = ages.others frame not } }
 
 -- it was used in the frame that it had, and pages may have been given up before, but not that
 pub renews_left : (t u v : Traffic) (home : ℕ) → RenewsNone t u → ((frame : ℕ) → t.tenant frame ≡ Some home → u.tenant frame ≡ Some home) → RenewsThere home u v → RenewsLeft home t v
 renews_left t u v home first stays then = record {
-  own = λ frame. (λ is. (then.own frame).0 (stays frame is), λ is. (let k = (then.own frame).1 is in sym (first frame (subst IsSome (sym k) refl)).tenant ∙ k));
-  youngest = then.ages.youngest;
-  others = λ frame there not. (let k = then.ages.others frame not in let j = first frame (subst IsSome k.tenant there) in record { tenant = k.tenant ∙ j.tenant; age = k.age ∙ j.age });
+  own = λ frame. (λ is. (then.own frame).0 (stays frame is), λ is. (let k = (then.own frame).1 is in sym (first.kept frame (subst IsSome (sym k) refl)).tenant ∙ k));
+  counted = record {
+    own = λ frame is. (let own = then.ages.counted.own frame is in (omega (arith, own.0, first.grows), own.1));
+    grows = omega (arith, first.grows, then.ages.counted.grows);
+  };
+  others = λ frame there not. (let k = then.ages.others frame not in let j = first.kept frame (subst IsSome k.tenant there) in record { tenant = k.tenant ∙ j.tenant; age = k.age ∙ j.age });
+}
+
+-- a page was used, once or again, and then it was
+pub counts_on : (home : ℕ) (t u : ℕ → Option ℕ) (age age' : ℕ → ℕ) (uses uses' uses'' : ℕ) → CountsAgain home t age uses uses' → CountsAgain home u age' uses' uses'' → CountsAgain home u age' uses uses''
+counts_on home t u age age' uses uses' uses'' first then = record {
+  own = λ frame is. (let last = then.own frame is in (omega (arith, last.0, first.grows), last.1));
+  grows = omega (arith, first.grows, then.grows);
 }
 
 -- and it may have been used before
 pub left_again : (t u v : Traffic) (home : ℕ) → RenewsLeft home t u → RenewsLeft home u v → RenewsLeft home t v
 left_again t u v home first then = record {
   own = λ frame. (λ is. (then.own frame).0 ((first.own frame).0 is), λ is. (first.own frame).1 ((then.own frame).1 is));
-  youngest = then.youngest;
+  counted = counts_on home u.tenant v.tenant u.age v.age t.uses u.uses v.uses first.counted then.counted;
   others = λ frame there not. (let k = then.others frame there not in let j = first.others frame (subst IsSome k.tenant there) (λ is. not (k.tenant ∙ is)) in record { tenant = k.tenant ∙ j.tenant; age = k.age ∙ j.age });
 }
 
@@ -186,7 +201,8 @@ renews_home : (t u : Traffic) (home : ℕ) → RenewsOne home t u → RenewsSome
 renews_home t u home one = record {
   renewed = λ frame. has (u.tenant frame);
   others = λ frame not there. one.others frame (unlike frame not);
-  younger = λ frame other is not here there. one.youngest frame other (like (u.tenant frame) is) (λ same. (let z : true ≡ false = sym is ∙ ap (λ f. has (u.tenant f)) (sym same) ∙ not in cc z)) there;
+  younger = λ frame is there. (one.counted.own frame (like (u.tenant frame) is)).0;
+  grows = one.counted.grows;
 }
   where
     has : Option ℕ → Bool
@@ -203,8 +219,11 @@ renews_home t u home one = record {
     unlike frame not is = (let z : true ≡ false = sym itself ∙ ap (λ o. option_map_or (λ h. h == home) o false) (sym is) ∙ not in cc z)
 
 -- a home was given up
-pub none_renewed : (t u : Traffic) (home : ℕ) → ((frame : ℕ) → u.tenant frame ≡ tenant_left home (t.tenant frame)) → ((frame : ℕ) → (t.tenant frame ≡ Some home → ⊥) → u.age frame ≡ t.age frame) → RenewsNone t u
-none_renewed t u home tenants ages frame there = (let k = by (t.tenant frame) (subst IsSome (tenants frame) there) in record { tenant = tenants frame ∙ k.0; age = ages frame k.1 })
+pub none_renewed : (t u : Traffic) (home : ℕ) → ((frame : ℕ) → u.tenant frame ≡ tenant_left home (t.tenant frame)) → ((frame : ℕ) → (t.tenant frame ≡ Some home → ⊥) → u.age frame ≡ t.age frame) → t.uses ≤ u.uses → RenewsNone t u
+none_renewed t u home tenants ages uses = record {
+  kept = λ frame there. (let k = by (t.tenant frame) (subst IsSome (tenants frame) there) in record { tenant = tenants frame ∙ k.0; age = ages frame k.1 });
+  grows = uses;
+}
   where
     by : (o : Option ℕ) → IsSome (tenant_left home o) → (tenant_left home o ≡ o) × (o ≡ Some home → ⊥)
     by None there = absurd (cc there)
@@ -214,23 +233,24 @@ none_renewed t u home tenants ages frame there = (let k = by (t.tenant frame) (s
     ]
 
 -- nothing is lost
-pub loses_none : (t u : Traffic) → u.queue ≡ t.queue → u.untold ≡ t.untold → u.holds ≡ t.holds → u.members ≡ t.members → RenewsSome t u → Loses t u
-loses_none t u queue untold holds members ages = record {
+pub loses_none : (t u : Traffic) → u.queue ≡ t.queue → u.untold ≡ t.untold → u.holds ≡ t.holds → u.members ≡ t.members → u.frames ≡ t.frames → RenewsSome t u → Loses t u
+loses_none t u queue untold holds members frames ages = record {
   these = λ x. false;
   queue = queue ∙ sym (filter_all t.queue);
   untold = λ need. ap (list_any (same_need need)) untold ∙ or_none (list_any (same_need need) t.untold) ∙ ap (λ b. list_any (same_need need) t.untold || b) (sym (any_none (λ x. same_need need (need_of x)) t.queue));
   given = λ home. false;
   holds = λ holder. ap (λ (f : ℕ → List ℕ). f holder) holds ∙ sym (filter_all (t.holds holder));
   members = members;
+  frames = frames;
   ages = ages;
 }
 
 -- nothing changed
 pub keeps_frames : (t : Traffic) → RenewsNone t t
-keeps_frames t frame there = record { tenant = refl; age = refl }
+keeps_frames t = record { kept = λ frame there. record { tenant = refl; age = refl }; grows = omega arith }
 
 pub loses_nothing : (t : Traffic) → Loses t t
-loses_nothing t = loses_none t t refl refl refl refl (renews_none t t (keeps_frames t))
+loses_nothing t = loses_none t t refl refl refl refl refl (renews_none t t (keeps_frames t))
 
 -- what is lost by one call and then by another is lost by both
 pub loses_on : (t u v : Traffic) → Loses t u → Loses u v → Loses t v
@@ -246,6 +266,7 @@ loses_on t u v first then = record {
   given = λ home. first.given home || then.given home;
   holds = λ holder. then.holds holder ∙ ap (filter (λ home. not (then.given home))) (first.holds holder) ∙ filter_on first.given then.given (t.holds holder);
   members = then.members ∙ first.members;
+  frames = then.frames ∙ first.frames;
   ages = renews_on t u v first.ages then.ages;
 }
 
@@ -306,8 +327,8 @@ holds_less t u l holder home h = within (t.holds holder) (sym (ap (list_any (λ 
 
 module _ {S : Type 0} (means : StoreMeaning S) (old new : S) where
   -- transfers that are taken from the queue, and pages that are held no more
-  loses_taken : (these : Transfer → Bool) → Cancels means these old new → (given : ℕ → Bool) → ((holder : ℕ) → means.holds new holder ≡ filter (λ home. not (given home)) (means.holds old holder)) → means.members new ≡ means.members old → RenewsSome (traffic means old) (traffic means new) → Loses (traffic means old) (traffic means new)
-  loses_taken these c given holds members ages = record {
+  loses_taken : (these : Transfer → Bool) → Cancels means these old new → (given : ℕ → Bool) → ((holder : ℕ) → means.holds new holder ≡ filter (λ home. not (given home)) (means.holds old holder)) → means.members new ≡ means.members old → means.frames new ≡ means.frames old → RenewsSome (traffic means old) (traffic means new) → Loses (traffic means old) (traffic means new)
+  loses_taken these c given holds members frames ages = record {
     these = these;
     queue = c.queue;
     untold = λ need.
@@ -316,6 +337,7 @@ module _ {S : Type 0} (means : StoreMeaning S) (old new : S) where
     given = given;
     holds = holds;
     members = members;
+    frames = frames;
     ages = ages;
   }
 
@@ -327,7 +349,7 @@ module _ {S : Type 0} (means : StoreMeaning S) (old new : S) where
 
   -- a use and a making renew one page
   pub used_one : (home : ℕ) → IsUsed means home old new → RenewsOne home (traffic means old) (traffic means new)
-  used_one home k = renews_one t u home (λ frame other. ap (λ (f : ℕ → Option ℕ). f frame) k.framed.tenant) k.ages
+  used_one home k = renews_one t u home (λ frame other. ap (λ (f : ℕ → Option ℕ). f frame) k.framed.tenant) (used_once home u.tenant t.age u.age t.uses u.uses k.ages)
 
   pub used_there : (home : ℕ) → IsUsed means home old new → RenewsThere home (traffic means old) (traffic means new)
   used_there home k = record {
@@ -345,14 +367,14 @@ module _ {S : Type 0} (means : StoreMeaning S) (old new : S) where
   -- a use, a making and a giving up lose so
   pub loses_used : (home : ℕ) → IsUsed means home old new → Loses (traffic means old) (traffic means new)
   loses_used home k =
-      loses_taken (departs home) k.rescued (λ h. false) (λ holder. ap (λ (f : ℕ → List ℕ). f holder) k.holds ∙ sym (filter_all (means.holds old holder))) k.framed.members
+      loses_taken (departs home) k.rescued (λ h. false) (λ holder. ap (λ (f : ℕ → List ℕ). f holder) k.holds ∙ sym (filter_all (means.holds old holder))) k.framed.members k.framed.frames
       (renews_home t u home (used_one home k))
 
   pub loses_made : (home : ℕ) (page : HomePlace) → IsMade means home page old new → Loses (traffic means old) (traffic means new)
-  loses_made home page m = loses_none t u m.queued.queue m.queued.untold m.holds m.members (renews_home t u home (made_one home page m))
+  loses_made home page m = loses_none t u m.queued.queue m.queued.untold m.holds m.members m.frames (renews_home t u home (made_one home page m))
 
   pub freed_none : (home : ℕ) → IsFreed means home old new → RenewsNone (traffic means old) (traffic means new)
-  freed_none home f = none_renewed t u home f.tenants f.ages
+  freed_none home f = none_renewed t u home f.tenants f.ages (let same = f.uses in omega (arith, same))
 
   -- each other page stays where it is
   pub freed_stays : (home other : ℕ) → other ≢ home → IsFreed means home old new → (frame : ℕ) → means.tenant old frame ≡ Some other → means.tenant new frame ≡ Some other
@@ -361,7 +383,7 @@ module _ {S : Type 0} (means : StoreMeaning S) (old new : S) where
       ∙ elim (eqb_tells other home) [ inl k ↦ absurd (ne k.1) | inr k ↦ ap (λ b. cond b None (Some other)) k.0 ]
 
   pub loses_freed : (home : ℕ) → IsFreed means home old new → Loses (traffic means old) (traffic means new)
-  loses_freed home f = loses_taken (moves home) f.cancelled (λ k. k == home) (λ holder. ap (λ (g : ℕ → List ℕ). g holder) f.holds) f.members (renews_none t u (freed_none home f))
+  loses_freed home f = loses_taken (moves home) f.cancelled (λ k. k == home) (λ holder. ap (λ (g : ℕ → List ℕ). g holder) f.holds) f.members f.frames (renews_none t u (freed_none home f))
 
 -- what is needed can be asked for
 pub can_fetch : {S : Type 0} (means : StoreMeaning S) (most : ℕ) (s : S) (need : Need) → IsNeeded means most s need → CanFetch means s need

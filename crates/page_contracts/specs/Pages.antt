@@ -35,7 +35,7 @@ use Rattle.plain_pages.specs.PlainPages.{PlainPages, NumberedPages, page_serial}
 use Rattle.plain_pages.specs.Maps.{entry_at, maps_on_way}
 use Rattle.plain_pages.specs.Room.{FitsLimit, live, uses}
 use Rattle.plain_pages.specs.References.{Spot, in_map, in_file, Making, blank, copy, Referred, granted, denied, full, reference, next_making, words_of, page_at}
-use Rattle.page_contracts.specs.Stores.{StoreMeaning, IsSound, IsNeeded, Loses, RenewsBoth, RenewsLeft, RenewsNone, RenewsOne, away, free, away_of, is_here, is_taken, place, traffic}
+use Rattle.page_contracts.specs.Stores.{StoreMeaning, HomePlace, IsSound, IsNeeded, Loses, RenewsBoth, RenewsLeft, RenewsNone, RenewsOne, away, content, free, away_of, is_here, is_taken, place, traffic, with_word_in}
 use Rattle.machine_names.specs.Bounds.{IsOwner, IsFilePage}
 use Rattle.machine_names.specs.Orders.{FilePage, file_page}
 
@@ -336,6 +336,47 @@ UsesMap means fork old new = MatchOption (means.map_home new fork) (UsesNone mea
 abbrev pub MayLose : {P : Type 0} → PagesMeaning P → P → P → Type 0
 MayLose means old new = Loses (traffic means.store old) (traffic means.store new)
 
+-- an entry names a page
+pub record EntryNames {P : Type 0} (means : PagesMeaning P) (p : P) (slot : Slot) (n : PageName) : Type 0 where
+  pub access : Access
+  pub is : means.seen p slot ≡ Entry (Names n access)
+
+-- of a page one word alone may be another
+pub record WordSet (old new : HomePlace) : Type 0 where
+  pub at : ℕ
+  pub word : ℕ
+  pub is : new ≡ with_word_in old at word
+
+-- An entry was set: each home but that of the map has what it had, or was given up and is that of the page that the entry named; of the map's page one word alone may
+-- be another. So each page has its home, or went; each map has its home; and where the entry named no page, as many frames are free.
+pub record SetsEntry {P : Type 0} (means : PagesMeaning P) (slot : Slot) (old new : P) : Type 0 where
+  pub homes : (home : ℕ) → (means.map_home old slot.fork ≡ Some home → ⊥) → (place (means.store.homes new) home ≡ place (means.store.homes old) home)
+      ⊎ ((place (means.store.homes new) home ≡ free) × ((n : PageName) × (means.page_home old n ≡ Some home) × EntryNames means old slot n))
+  pub map : (home : ℕ) → means.map_home old slot.fork ≡ Some home → WordSet (place (means.store.homes old) home) (place (means.store.homes new) home)
+  pub pages : (n : PageName) → (means.page_home new n ≡ means.page_home old n) ⊎ ((means.page_home new n ≡ None) × EntryNames means old slot n)
+  pub maps : means.map_home new ≡ means.map_home old
+
+-- One page of a file was set: each home has what it had, or was given up and is that of the page that the file named there. So each page has its home, or went; and
+-- each map has its home.
+pub record SetsFile {P : Type 0} (means : PagesMeaning P) (f : FilePage ℕ) (old new : P) : Type 0 where
+  pub homes : (home : ℕ) → (place (means.store.homes new) home ≡ place (means.store.homes old) home)
+      ⊎ ((place (means.store.homes new) home ≡ free) × ((n : PageName) × (means.page_home old n ≡ Some home) × (means.filed old f ≡ Some n)))
+  pub pages : (n : PageName) → (means.page_home new n ≡ means.page_home old n) ⊎ ((means.page_home new n ≡ None) × (means.filed old f ≡ Some n))
+  pub maps : means.map_home new ≡ means.map_home old
+
+-- The page of a place was used, or made, at a home, and is in a frame: the home was free, or has what it had. Each other home has what it had, but that of one fork's map at most, of whose
+-- page one word alone may be another; each page that has another home had it, and each that had one has it; and each map has its home.
+pub record SettlesHome {P : Type 0} (means : PagesMeaning P) (at : Place) (old new : P) : Type 0 where
+  pub home : ℕ
+  pub stands : StandsAt means new at home
+  pub here : is_here (place (means.store.homes new) home) ≡ true
+  pub own : (place (means.store.homes old) home ≡ free) ⊎ (place (means.store.homes new) home ≡ place (means.store.homes old) home)
+  pub fork : Option ForkName
+  pub map : (k : ℕ) → option_and_then (means.map_home old) fork ≡ Some k → WordSet (place (means.store.homes old) k) (place (means.store.homes new) k)
+  pub others : (k : ℕ) → k ≢ home → (option_and_then (means.map_home old) fork ≡ Some k → ⊥) → place (means.store.homes new) k ≡ place (means.store.homes old) k
+  pub pages : (n : PageName) (k : ℕ) → k ≢ home → (means.page_home new n ≡ Some k) ↔ (means.page_home old n ≡ Some k)
+  pub maps : means.map_home new ≡ means.map_home old
+
 -- the map of a fork names a page
 pub record NamesPage {P : Type 0} (means : PagesMeaning P) (p : P) (fork : ForkName) (n : PageName) : Type 0 where
   pub page : ℕ
@@ -406,6 +447,7 @@ pub record StaysPut {P : Type 0} (means : PagesMeaning P) (old new : P) : Type 0
   pub lives : means.lives new ≡ means.lives old
   pub forks : means.forks_of new ≡ means.forks_of old
   pub serials : means.serial new ≡ means.serial old
+  pub count : means.count new ≡ means.count old
   pub most : means.most new ≡ means.most old
 
 -- what a transfer leaves, and what is asked of frames: the handles, what files name, the homes, and all numbers
@@ -428,7 +470,6 @@ StaysPlain means old new = (d : DrumWords) → means.fits old d → means.fits n
 pub record StaysSame {P : Type 0} (means : PagesMeaning P) (old new : P) : Type 0 where
   pub plain : StaysPlain means old new
   pub put : StaysPut means old new
-  pub count : means.count new ≡ means.count old
 
 -- pages were used, and no more: over the words of each drum they are as they were, and what a touch finds stays; what is queued and held may
 -- have become less
@@ -436,7 +477,6 @@ pub record OnlyUses {P : Type 0} (means : PagesMeaning P) (old new : P) : Type 0
   pub fits : (d : DrumWords) → means.fits old d ↔ means.fits new d
   pub plain : means.plain new ≡ means.plain old
   pub put : StaysPut means old new
-  pub count : means.count new ≡ means.count old
   pub loses : MayLose means old new
 
 -- what may have a home: a page, or the map of a fork
@@ -479,3 +519,7 @@ pub record Agrees {P : Type 0} (means : PagesMeaning P) (p : P) (plain : Numbere
   pub taken : count_by is_taken (means.store.homes p) ≡ (if means.paged then live plain else map.len plain.objects)
   pub absent_pages : (n : PageName) (home : ℕ) → (means.scene p).page_away n ≡ Some home → map.contains_key plain.objects n ≡ true
   pub absent_maps : (f : ForkName) (home : ℕ) → (means.scene p).map_away f ≡ Some home → map.contains_key plain.maps f ≡ true
+
+-- over the words of a drum, each page that has a home has the words there: those of its frame, or the drum's where it is in none
+abbrev pub AreThere : {P : Type 0} → PagesMeaning P → P → DrumWords → Type 0
+AreThere means p d = (n : PageName) (home : ℕ) → means.page_home p n ≡ Some home → map.get (means.plain p d).objects n ≡ content (means.store.homes p) d home

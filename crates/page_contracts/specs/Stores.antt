@@ -1,5 +1,5 @@
 -- Pages under homes: where each page is, which transfers are queued, and what the words of a drum make of it.
-use Rattle.std.specs.Prelude.{◌≡◌, ◌≢◌, ◌⊎◌, ◌↔◌, ℕ, ◌+◌, ◌-◌, ◌^◌, ◌<◌, ◌≤◌, List, [], ◌∷◌, ◌++◌, length, Contains, Bool, true, false, not, ◌||◌, ◌&&◌, ◌==◌, nat_lt, if◌then◌else◌, Option, None, Some, is_some, IsSome, MatchOption, count_by, filter, slice_index, slice_index_or, slice_set}
+use Rattle.std.specs.Prelude.{◌≡◌, ◌≢◌, ◌⊎◌, ◌↔◌, ℕ, zero, suc, ◌+◌, ◌-◌, ◌/◌, ◌^◌, ◌<◌, ◌≤◌, List, [], ◌∷◌, ◌++◌, length, Contains, Bool, true, false, not, ◌||◌, ◌&&◌, ◌==◌, nat_lt, if◌then◌else◌, Option, None, Some, is_some, IsSome, MatchOption, count_by, filter, slice_index, slice_index_or, slice_set}
 use Rattle.std.specs.List.{list_any}
 use Rattle.std.specs.Option.{option_map_or, option_and_then}
 use Rattle.outside.specs.Faults.{Rose, CountsUp}
@@ -9,7 +9,7 @@ use Rattle.page_homes.specs.declared.homes.TheConstants.{MOST_HOMES}
 use Rattle.page_contracts.specs.declared.answers.Need.{Need}
 use Rattle.page_contracts.specs.declared.answers.Need.TheVariants.{Page, Frame}
 use Rattle.page_contracts.specs.declared.answers.Found.{Found}
-use Rattle.page_contracts.specs.declared.store.TheConstants.{CONSOLE_HOLDER, MOST_HELD, MOST_HELD_FOR_CONSOLE}
+use Rattle.page_contracts.specs.declared.store.TheConstants.{CONSOLE_HOLDER, MOST_HELD, MOST_HELD_FOR_CONSOLE, MOST_HOLDERS}
 use Rattle.page_contracts.specs.declared.store.Completed.{Completed}
 use Rattle.page_contracts.specs.declared.store.Completed.TheVariants.{Done, Nothing, DrumFault}
 use Rattle.page_contracts.specs.declared.store.Room.{Room}
@@ -144,13 +144,29 @@ noted_all (t ∷ ts) needs = noted_all ts (noted (need_of t) needs)
 abbrev pub LAST_USE : ℕ
 LAST_USE = 2 ^ 64 - 1
 
--- the frame of a home's page is the youngest of those with a page, until the numbers of uses end
-abbrev pub IsYoungest : ℕ → (ℕ → Option ℕ) → (ℕ → ℕ) → Type 0
-IsYoungest home tenant age = (frame other : ℕ) → tenant frame ≡ Some home → other ≢ frame → IsSome (tenant other) → (age other < age frame) ⊎ (age frame ≡ LAST_USE)
+-- the number of the use after one
+abbrev pub next_use : ℕ → ℕ
+next_use n = if nat_lt n LAST_USE then n + 1 else n
 
--- a home's page was used: its frame is the youngest; and each other frame has its age
-pub record Renews (home : ℕ) (tenant : ℕ → Option ℕ) (old new : ℕ → ℕ) : Type 0 where
-  pub youngest : IsYoungest home tenant new
+-- A use of a home's page was counted, where it has a frame: that has the number of this use as its age, and the next use has the next number.
+pub record Counts (home : ℕ) (tenant : ℕ → Option ℕ) (age : ℕ → ℕ) (uses uses' : ℕ) : Type 0 where
+  pub own : (frame : ℕ) → tenant frame ≡ Some home → (age frame ≡ uses) × (uses' ≡ next_use uses)
+  pub none : ((frame : ℕ) → tenant frame ≡ Some home → ⊥) → uses' ≡ uses
+  pub grows : uses ≤ uses'
+
+-- It was used once or again, one use after another: its age is the number of the last of these uses.
+pub record CountsAgain (home : ℕ) (tenant : ℕ → Option ℕ) (age : ℕ → ℕ) (uses uses' : ℕ) : Type 0 where
+  pub own : (frame : ℕ) → tenant frame ≡ Some home → (uses ≤ age frame) × (uses' ≡ next_use (age frame))
+  pub grows : uses ≤ uses'
+
+-- a home's page was used, which was counted; and each other frame has its age
+pub record Renews (home : ℕ) (tenant : ℕ → Option ℕ) (old new : ℕ → ℕ) (uses uses' : ℕ) : Type 0 where
+  pub counted : Counts home tenant new uses uses'
+  pub others : (frame : ℕ) → (tenant frame ≡ Some home → ⊥) → new frame ≡ old frame
+
+-- the same, once or again
+pub record RenewsAgain (home : ℕ) (tenant : ℕ → Option ℕ) (old new : ℕ → ℕ) (uses uses' : ℕ) : Type 0 where
+  pub counted : CountsAgain home tenant new uses uses'
   pub others : (frame : ℕ) → (tenant frame ≡ Some home → ⊥) → new frame ≡ old frame
 
 -- each frame has its age but that of a home's page
@@ -163,15 +179,17 @@ tenant_left home None = None
 tenant_left home (Some other) = if other == home then None else Some other
 
 -- WHAT STANDS BESIDE THE PAGES: the transfers that are queued, the oldest first; what those would have told that were taken from the queue, as
--- far as it is not told yet; the homes whose frames are held for each holder; how many forks may have their pages in core together; and of each
--- frame the home that it is given to, and its age
+-- far as it is not told yet; the homes whose frames are held for each holder; how many forks may have their pages in core together; how many frames
+-- there are; of each frame the home that it is given to, and its age; and the number of the next use
 pub record Traffic : Type 0 where
   pub queue : List Transfer
   pub untold : List Need
   pub holds : ℕ → List ℕ
   pub members : ℕ
+  pub frames : ℕ
   pub tenant : ℕ → Option ℕ
   pub age : ℕ → ℕ
+  pub uses : ℕ
 
 -- a frame has the page that it had, and its age
 pub record KeepsFrame (old new : Traffic) (frame : ℕ) : Type 0 where
@@ -179,12 +197,13 @@ pub record KeepsFrame (old new : Traffic) (frame : ℕ) : Type 0 where
   pub age : new.age frame ≡ old.age frame
 
 -- no page was used or came into a frame: each frame that has a page had it, and has its age
-abbrev pub RenewsNone : Traffic → Traffic → Type 0
-RenewsNone old new = (frame : ℕ) → IsSome (new.tenant frame) → KeepsFrame old new frame
+pub record RenewsNone (old new : Traffic) : Type 0 where
+  pub kept : (frame : ℕ) → IsSome (new.tenant frame) → KeepsFrame old new frame
+  pub grows : old.uses ≤ new.uses
 
--- one page was used or made, that of a home: its frame is the youngest; and each other frame has what it had, a page or none, and its age
+-- one page was used or made, that of a home; and each other frame has what it had, a page or none, and its age
 pub record RenewsOne (home : ℕ) (old new : Traffic) : Type 0 where
-  pub youngest : IsYoungest home new.tenant new.age
+  pub counted : CountsAgain home new.tenant new.age old.uses new.uses
   pub others : (frame : ℕ) → (new.tenant frame ≡ Some home → ⊥) → KeepsFrame old new frame
 
 -- a home's page has the frame that it had
@@ -205,15 +224,16 @@ pub record RenewsBoth (home next : ℕ) (old new : Traffic) : Type 0 where
 -- one page was used in the frame that it had, and pages may have been given up: each other frame that has a page had it, and has its age
 pub record RenewsLeft (home : ℕ) (old new : Traffic) : Type 0 where
   pub own : StaysInFrame home old new
-  pub youngest : IsYoungest home new.tenant new.age
+  pub counted : CountsAgain home new.tenant new.age old.uses new.uses
   pub others : (frame : ℕ) → IsSome (new.tenant frame) → (new.tenant frame ≡ Some home → ⊥) → KeepsFrame old new frame
 
--- Pages were used or made, and pages may have been given up. Each frame with a page that was not used had that page, and has its age; and it is older than each
--- whose page was, until the numbers of uses end.
+-- Pages were used or made, and pages may have been given up. Each frame with a page that was not used had that page, and has its age; and the age of each whose
+-- page was is the number of a use since.
 pub record RenewsSome (old new : Traffic) : Type 0 where
   pub renewed : ℕ → Bool
   pub others : (frame : ℕ) → renewed frame ≡ false → IsSome (new.tenant frame) → KeepsFrame old new frame
-  pub younger : (frame other : ℕ) → renewed frame ≡ true → renewed other ≡ false → IsSome (new.tenant frame) → IsSome (new.tenant other) → (new.age other < new.age frame) ⊎ (new.age frame ≡ LAST_USE)
+  pub younger : (frame : ℕ) → renewed frame ≡ true → IsSome (new.tenant frame) → old.uses ≤ new.age frame
+  pub grows : old.uses ≤ new.uses
 
 -- Transfers were taken from the queue, and what each of them would have told is to be told; what was to be told still is, and nothing else is.
 -- Pages that were held may be held no more. Nothing was queued, and nothing more is held. Only what was used is younger than it was.
@@ -224,7 +244,12 @@ pub record Loses (old new : Traffic) : Type 0 where
   pub given : ℕ → Bool
   pub holds : (holder : ℕ) → new.holds holder ≡ filter (λ home. not (given home)) (old.holds holder)
   pub members : new.members ≡ old.members
+  pub frames : new.frames ≡ old.frames
   pub ages : RenewsSome old new
+
+-- how many forks may have their pages in so many frames: 128 frames for each, of those that are over 32
+abbrev pub members_of : ℕ → ℕ
+members_of frames = (frames - 32) / 128
 
 -- how many frames may be held for a holder
 abbrev pub most_held : ℕ → ℕ
@@ -256,6 +281,11 @@ frames_begun m = 0
 abbrev pub with_home : ℕ → List ℕ → List ℕ
 with_home home homes = if list_any (λ h. h == home) homes then homes else homes ++ (home ∷ [])
 
+-- how many of the numbers below one pass a test
+abbrev pub number_below : ℕ → (ℕ → Bool) → ℕ
+number_below zero test = 0
+number_below (suc n) test = (if test 0 then 1 else 0) + number_below n (λ k. test (suc k))
+
 -- what is held for each fork, with a home's page for one of them
 abbrev pub holding : (ℕ → List ℕ) → ℕ → ℕ → ℕ → List ℕ
 holding holds holder home k = if k == holder then with_home home (holds k) else holds k
@@ -272,7 +302,8 @@ giving_up holds home k = filter (λ h. not (h == home)) (holds k)
 pub record StoreMeaning (S : Type 0) : Type 0 where
   -- where the page of each home is
   pub homes : S → List HomePlace
-  -- how many frames are free; where there are no frames, how many homes
+  -- how many frames there are, and how many are free; where there are no frames, how many homes
+  pub frames : S → ℕ
   pub spare : S → ℕ
   -- the transfers, the oldest first
   pub queue : S → List Transfer
@@ -284,8 +315,9 @@ pub record StoreMeaning (S : Type 0) : Type 0 where
   pub tenant : S → ℕ → Option ℕ
   -- the frame whose page has to leave next
   pub victim : S → Option ℕ
-  -- the age of a frame: the number of its last use
+  -- the age of a frame: the number of its last use; and the number of the next use
   pub age : S → ℕ → ℕ
+  pub uses : S → ℕ
   -- where the words of a home's page are
   pub found : S → ℕ → Option Found
   -- how many forks may have their pages in core together
@@ -295,7 +327,7 @@ pub record StoreMeaning (S : Type 0) : Type 0 where
 
 module _ {S : Type 0} (means : StoreMeaning S) where
   abbrev pub traffic : S → Traffic
-  traffic s = record { queue = means.queue s; untold = means.untold s; holds = means.holds s; members = means.members s; tenant = means.tenant s; age = means.age s }
+  traffic s = record { queue = means.queue s; untold = means.untold s; holds = means.holds s; members = means.members s; frames = means.frames s; tenant = means.tenant s; age = means.age s; uses = means.uses s }
 
   -- a frame's page may leave it: no transfer moves it, and for nobody is it held
   pub record CanLeave (s : S) (frame home : ℕ) : Type 0 where
@@ -314,8 +346,23 @@ module _ {S : Type 0} (means : StoreMeaning S) where
     pub oldest : (g other : ℕ) → CanLeave s g other → means.age s frame ≤ means.age s g
     pub least : (g other : ℕ) → CanLeave s g other → means.age s g ≡ means.age s frame → frame ≤ g
 
+  -- for how many holders the page of a home is held
+  abbrev pub holders_of : S → ℕ → ℕ
+  holders_of s home = number_below MOST_HOLDERS (λ holder. list_any (λ h. h == home) (means.holds s holder))
+
+  -- how many frames have a page that is held for somebody
+  abbrev pub held_frames : S → ℕ
+  held_frames s = number_below (means.frames s) (λ frame. option_map_or (λ home. nat_lt 0 (holders_of s home)) (means.tenant s frame) false)
+
+  -- the page of a home has a frame
+  pub record HasFrame (s : S) (home : ℕ) : Type 0 where
+    pub frame : ℕ
+    pub is : means.tenant s frame ≡ Some home
+
   -- what holds of each store: pages are pages; a page is found exactly in a frame, and no two are found in one; what comes is away, and what goes or is held is in a
-  -- frame, one transfer a home; the next to leave is the oldest that may, and where none is next none may; and without frames nothing is away or moves
+  -- frame, one transfer a home; each frame is free, has the page of a home that is in a frame, of which it is the only one, or waits for one that comes; what is held is
+  -- held for a member or for the console, so many for each at most, each once; no age is that of a use to come; the next to leave is the oldest that may, and where none
+  -- is next none may; and without frames nothing is away or moves
   pub record IsSound (s : S) : Type 0 where
     pub few : length (means.homes s) ≤ MOST_HOMES
     pub pages : (home : ℕ) (words : List ℕ) → place (means.homes s) home ≡ here words → IsPage words
@@ -326,6 +373,16 @@ module _ {S : Type 0} (means : StoreMeaning S) where
     pub once : (home : ℕ) → count_by (moves home) (means.queue s) ≤ 1
     pub held : (holder home : ℕ) → Contains (means.holds s holder) home → is_here (place (means.homes s) home) ≡ true
     pub unmoved : (holder home : ℕ) → Contains (means.holds s holder) home → list_any (moves home) (means.queue s) ≡ false
+    pub shared : means.spare s + count_by is_here (means.homes s) + count_by is_arrival (means.queue s) ≡ means.frames s
+    pub seated : means.flat ≡ false → (home : ℕ) → is_here (place (means.homes s) home) ≡ true → HasFrame s home
+    pub given : (frame home : ℕ) → means.tenant s frame ≡ Some home → (frame < means.frames s) × (is_here (place (means.homes s) home) ≡ true)
+    pub single : (frame other home : ℕ) → means.tenant s frame ≡ Some home → means.tenant s other ≡ Some home → frame ≡ other
+    pub members : means.flat ≡ false → means.members s ≡ members_of (means.frames s)
+    pub few_held : (holder : ℕ) → length (means.holds s holder) ≤ most_held holder
+    pub none_held : (holder : ℕ) → (means.members s ≤ holder) ⊎ (MOST_HOLDERS ≤ holder) → holder ≢ CONSOLE_HOLDER → means.holds s holder ≡ []
+    pub held_once : (holder home : ℕ) → count_by (λ h. h == home) (means.holds s holder) ≤ 1
+    pub numbered : means.uses s ≤ LAST_USE
+    pub aged : (frame : ℕ) → IsSome (means.tenant s frame) → (means.age s frame ≤ means.uses s) × (means.uses s < LAST_USE → means.age s frame < means.uses s)
     pub next : MatchOption (means.victim s) (AllStay s) (IsNext s)
     pub core : means.flat ≡ true → (home : ℕ) → is_taken (place (means.homes s) home) ≡ is_here (place (means.homes s) home)
     pub still : means.flat ≡ true → means.queue s ≡ []
@@ -338,6 +395,7 @@ module _ {S : Type 0} (means : StoreMeaning S) where
 
   -- no page comes into a frame or leaves one
   pub record StaysFramed (old new : S) : Type 0 where
+    pub frames : means.frames new ≡ means.frames old
     pub spare : means.spare new ≡ means.spare old
     pub found : means.found new ≡ means.found old
     pub tenant : means.tenant new ≡ means.tenant old
@@ -348,6 +406,7 @@ module _ {S : Type 0} (means : StoreMeaning S) where
     pub homes : means.homes new ≡ means.homes old
     pub framed : StaysFramed old new
     pub ages : means.age new ≡ means.age old
+    pub uses : means.uses new ≡ means.uses old
 
   -- transfers are as they were
   pub record StaysQueued (old new : S) : Type 0 where
@@ -370,19 +429,21 @@ module _ {S : Type 0} (means : StoreMeaning S) where
     pub framed : StaysFramed old new
     pub rescued : Cancels (departs home) old new
     pub holds : means.holds new ≡ means.holds old
-    pub ages : Renews home (means.tenant new) (means.age old) (means.age new)
+    pub ages : Renews home (means.tenant new) (means.age old) (means.age new) (means.uses old) (means.uses new)
 
   -- a free home is taken, with a page that is in a frame
   pub record IsMade (home : ℕ) (page : HomePlace) (old new : S) : Type 0 where
     pub below : home < length (means.homes old)
     pub was_free : place (means.homes old) home ≡ free
     pub homes : means.homes new ≡ slice_set (means.homes old) home page
+    pub frames : means.frames new ≡ means.frames old
     pub spare : means.spare new + 1 ≡ means.spare old
     pub queued : StaysQueued old new
     pub holds : means.holds new ≡ means.holds old
     pub members : means.members new ≡ means.members old
+    pub found : (other : ℕ) → other ≢ home → means.found new other ≡ means.found old other
     pub tenants : (frame : ℕ) → (means.tenant new frame ≡ Some home → ⊥) → means.tenant new frame ≡ means.tenant old frame
-    pub ages : Renews home (means.tenant new) (means.age old) (means.age new)
+    pub ages : RenewsAgain home (means.tenant new) (means.age old) (means.age new) (means.uses old) (means.uses new)
 
   -- the frame that a home's page has, if it has one
   abbrev pub frames_of : S → ℕ → ℕ
@@ -391,12 +452,15 @@ module _ {S : Type 0} (means : StoreMeaning S) where
   -- a home is given up, with its frame, its holds and its transfer
   pub record IsFreed (home : ℕ) (old new : S) : Type 0 where
     pub homes : means.homes new ≡ slice_set (means.homes old) home free
+    pub frames : means.frames new ≡ means.frames old
     pub spare : means.spare new ≡ means.spare old + frames_of old home
     pub cancelled : Cancels (moves home) old new
     pub holds : means.holds new ≡ giving_up (means.holds old) home
     pub members : means.members new ≡ means.members old
+    pub found : (other : ℕ) → other ≢ home → means.found new other ≡ means.found old other
     pub tenants : (frame : ℕ) → means.tenant new frame ≡ tenant_left home (means.tenant old frame)
     pub ages : KeepsAges home (means.tenant old) (means.age old) (means.age new)
+    pub uses : means.uses new ≡ means.uses old
 
   -- the departure of a frame's page
   abbrev pub departure_of : S → Option ℕ → List Transfer
@@ -419,16 +483,19 @@ module _ {S : Type 0} (means : StoreMeaning S) where
   IsNeeded most s (Page home) = place (means.homes s) home.0 ≡ away
   IsNeeded most s Frame = means.spare s < most
 
-  -- what is read is queued, or what has to leave
+  -- what is read is queued, or what has to leave; a frame that waits for a page may pass over the number of a use
   pub record IsFetched (need : Need) (old new : S) : Type 0 where
     pub homes : means.homes new ≡ means.homes old
     pub queue : means.queue new ≡ means.queue old ++ queued old (meeting (means.queue old) (means.spare old) need)
+    pub frames : means.frames new ≡ means.frames old
     pub spare : means.spare new + frames_begun (meeting (means.queue old) (means.spare old) need) ≡ means.spare old
     pub untold : means.untold new ≡ means.untold old
     pub holds : means.holds new ≡ means.holds old
     pub found : means.found new ≡ means.found old
+    pub tenant : means.tenant new ≡ means.tenant old
     pub members : means.members new ≡ means.members old
     pub ages : (frame : ℕ) → IsSome (means.tenant old frame) → means.age new frame ≡ means.age old frame
+    pub uses : (means.uses new ≡ means.uses old) ⊎ (means.uses new ≡ next_use (means.uses old))
 
   -- the oldest transfer has ended, and told this: its page alone has come into its frame, which is a use of it, or left it
   pub record Ends (need : Need) (old new : S) : Type 0 where
@@ -436,13 +503,17 @@ module _ {S : Type 0} (means : StoreMeaning S) where
     pub oldest : means.queue old ≡ transfer ∷ means.queue new
     pub told : need ≡ need_of transfer
     pub moved : is_here (place (means.homes new) (home_of transfer)) ≡ is_arrival transfer
+    pub taken : is_taken (place (means.homes new) (home_of transfer)) ≡ true
     pub homes : means.homes new ≡ slice_set (means.homes old) (home_of transfer) (place (means.homes new) (home_of transfer))
+    pub frames : means.frames new ≡ means.frames old
     pub spare : means.spare new ≡ means.spare old + (if is_arrival transfer then 0 else 1)
     pub untold : means.untold new ≡ means.untold old
     pub holds : means.holds new ≡ means.holds old
     pub members : means.members new ≡ means.members old
-    pub came : is_arrival transfer ≡ true → Renews (home_of transfer) (means.tenant new) (means.age old) (means.age new)
-    pub went : is_arrival transfer ≡ false → KeepsAges (home_of transfer) (means.tenant old) (means.age old) (means.age new)
+    pub found : (home : ℕ) → home ≢ home_of transfer → means.found new home ≡ means.found old home
+    pub tenants : (frame : ℕ) → (means.tenant new frame ≡ Some (home_of transfer) → ⊥) → means.tenant new frame ≡ tenant_left (home_of transfer) (means.tenant old frame)
+    pub came : is_arrival transfer ≡ true → Renews (home_of transfer) (means.tenant new) (means.age old) (means.age new) (means.uses old) (means.uses new)
+    pub went : is_arrival transfer ≡ false → KeepsAges (home_of transfer) (means.tenant old) (means.age old) (means.age new) × (means.uses new ≡ means.uses old)
 
   -- the oldest transfer ends, where one is queued, and is counted; or the drum fails, which changes nothing but its count of faults
   pub record Completes {D : Type 0} (faults reads writes pages : D → ℕ) (result : Completed) (old new : S) (drum drum' : D) : Type 0 where

@@ -11,7 +11,7 @@ ghost use Rattle.page_contracts.specs.DrumWords.{DrumWords, Stands};
 ghost use Rattle.plain_pages.specs.References.{in_map, settled, slot_at, word_at, stored, page_at as named_at, without_fork};
 ghost use Rattle.page_contracts.specs.Stores.{IsFetched, IsUsed, CanFetch, Completes, Tells, Evicts, CanKeep, Keeps, LetsGo, awaited, meeting, most_held};
 ghost use Rattle.plain_pages.specs.WholePages.{AreWhole};
-ghost use Rattle.page_contracts.specs.Pages.{PagesMeaning, AddsMap, Agrees, AreHoused, DropsFile, DropsMap, FilesMade, FilesOne, HasSpace, MayLose, OnlyUses, PeekNeeds, SeenNeeds, StandsAt, TouchNeeds, AddsUse, UsesMap, UsesNone, UsesPlace, StaysInCore, TakesMap, TakesFrames, StaysPut, StaysMapped, StaysPlain, StaysSame, IsPlace, IsTouched, IsReady, CanChange, IsNewMap, MapFollowsFork, FollowsFork, FollowsPage, SettlesTo, spot_of, touch_of, peek_of, seen_of, map_away, counted, room_for, can_settle, frames_taken, is_in_core, is_seen, is_entry, is_seen_entry};
+ghost use Rattle.page_contracts.specs.Pages.{PagesMeaning, AddsMap, Agrees, AreHoused, AreThere, DropsFile, DropsMap, FilesMade, FilesOne, HasSpace, MayLose, OnlyUses, PeekNeeds, SeenNeeds, SetsEntry, SetsFile, SettlesHome, StandsAt, TouchNeeds, AddsUse, UsesMap, UsesNone, UsesPlace, StaysInCore, TakesMap, TakesFrames, StaysPut, StaysMapped, StaysPlain, StaysSame, IsPlace, IsTouched, IsReady, CanChange, IsNewMap, MapFollowsFork, FollowsFork, FollowsPage, SettlesTo, spot_of, touch_of, peek_of, seen_of, map_away, counted, room_for, can_settle, frames_taken, is_in_core, is_seen, is_entry, is_seen_entry};
 ghost use Rattle.plain_pages.specs.NewEntries.{IsNewEntry, changed};
 ghost use Rattle.plain_pages.specs.FilePages.{filed_by, without_file};
 ghost use Rattle.machine_names.specs.Orders.{file_page, same_fork};
@@ -88,13 +88,14 @@ pub trait Pages {
         ensures filed { means.filed self.new ≡ means.filed self.old }
         ensures loses { MayLose means self.old self.new }
         ensures uses { UsesMap means slot.fork self.old self.new }
+        ensures sets { SetsEntry means slot self.old self.new }
         ensures lives { means.lives self.new ≡ means.lives self.old }
         ensures forks { means.forks_of self.new ≡ means.forks_of self.old }
         ensures serials { means.serial self.new ≡ means.serial self.old }
         ensures most { means.most self.new ≡ means.most self.old };
 
-    /// Makes the zero page or the copy that a touch announces, for an owner. One page is made, in a frame; then the map is used in which an entry
-    /// is set to it. A page that the touch finds ready is used.
+    /// Makes the zero page or the copy that a touch announces, for an owner. One page is made, in a frame; then, where maps have homes, the map is
+    /// used in which an entry is set to it, over each drum that fits. A page that the touch finds ready is used, and then no map.
     fn settle(&mut self, at: Place, kind: Kind, owner: Tty)
         requires place { IsPlace (means.lives self.old) at }
         requires ready { can_settle (means.touched self.old at kind) ≡ true }
@@ -106,6 +107,7 @@ pub trait Pages {
         ensures count { means.count self.new ≡ means.count self.old + frames_taken (means.touched self.old at kind) }
         ensures loses { MayLose means self.old self.new }
         ensures uses { UsesPlace means at kind self.old self.new }
+        ensures homes { SettlesHome means at self.old self.new }
         ensures filed { FilesMade means at (means.touched self.old at kind) self.old self.new }
         ensures ready { (home : ℕ) → means.touched self.old at kind ≡ Touch.Ready → StandsAt means self.old at home → IsUsed means.store home self.old self.new }
         ensures lives { means.lives self.new ≡ means.lives self.old }
@@ -219,6 +221,7 @@ pub trait Pages {
         ensures told { (d : DrumWords) → means.fits self.old d → means.fits self.new d × (means.plain self.new d ≡ filed_by (means.plain self.old d) (file_page file.0 page) from) }
         ensures scene { StaysInCore (means.scene self.old) (means.scene self.new) 0 }
         ensures filed { FilesOne means (file_page file.0 page) (is_some from) self.old self.new }
+        ensures sets { SetsFile means (file_page file.0 page) self.old self.new }
         ensures loses { MayLose means self.old self.new }
         ensures uses { UsesNone means self.old self.new }
         ensures lives { means.lives self.new ≡ means.lives self.old }
@@ -309,6 +312,9 @@ pub trait Pages {
 
     /// Over each drum that fits, the plain pages are whole.
     ghost whole: { (p : Self) (d : DrumWords) → means.fits p d → AreWhole (means.plain p d) };
+
+    /// Over each drum that fits, a page has the words that are at its home.
+    ghost there: { (p : Self) (d : DrumWords) → means.fits p d → AreThere means p d };
 
     /// A terminal of which no fork lives has none of that name.
     ghost none_lives: { (p : Self) (f : AForkName) → means.forks_of p f.tty ≡ 0 → means.lives p f ≡ false };

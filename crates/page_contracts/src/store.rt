@@ -1,5 +1,5 @@
 // Pages under homes.
-ghost use Rattle.std.specs.Prelude.{◌≡◌, ◌<◌, ◌≤◌, ℕ, true, Some, length, map, slice_set};
+ghost use Rattle.std.specs.Prelude.{◌≡◌, ◌<◌, ◌≤◌, ◌+◌, ℕ, true, Some, length, map, slice_set};
 ghost use Rattle.outside.specs.declared.TheConstants.{PAGE_WORDS};
 ghost use Rattle.page_contracts.specs.DrumWords.{DrumWords, Stands};
 ghost use Rattle.machine_names.specs.PageWords.{zero_words};
@@ -103,13 +103,15 @@ pub trait Store {
     /// Takes a free home, for a page of zero words in a frame.
     fn make(&mut self) -> Home
         requires { room_of (free_homes (means.homes self.old)) (means.spare self.old) 1 ≡ Room.Enough }
-        ensures { IsMade means result.0 (here zero_words) self.old self.new };
+        ensures made { IsMade means result.0 (here zero_words) self.old self.new }
+        ensures once { means.uses self.new ≤ means.uses self.old + 1 };
 
     /// Takes a free home, for a page in a frame with the words of another, which is in a frame.
     fn copy(&mut self, from: Home) -> Home
         requires room { room_of (free_homes (means.homes self.old)) (means.spare self.old) 1 ≡ Room.Enough }
         requires from { is_here (place (means.homes self.old) from.0) ≡ true }
-        ensures { IsMade means result.0 (place (means.homes self.old) from.0) self.old self.new };
+        ensures made { IsMade means result.0 (place (means.homes self.old) from.0) self.old self.new }
+        ensures once { means.uses self.new ≤ means.uses self.old + 1 };
 
     /// Gives a home up. Its page is held for nobody any more, and its transfer is taken from the queue.
     fn free(&mut self, home: Home)

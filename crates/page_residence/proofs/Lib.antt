@@ -8,3 +8,5 @@ pub mod Meant
 pub mod Steps
 pub mod Finding
 pub mod Renewing
+pub mod Numbered
+pub mod Shared

@@ -1,14 +1,16 @@
 -- What a use, a page that comes and a page that goes make of the ages of frames.
-use Rattle.std.proofs.Common.{◌≡◌, ◌≢◌, ℕ, ◌<◌, inl, inr, List, length, Option, None, Some, is_some, Bool, true, false, cond, refl, sym, ◌∙◌, ap, subst, arith, set}
+use Rattle.std.proofs.Common.{◌≡◌, ◌≢◌, ℕ, suc, ◌+◌, ◌<◌, ◌≤◌, inl, inr, List, length, Option, None, Some, is_some, Bool, true, false, cond, refl, sym, ◌∙◌, ap, subst, arith, set}
 use Rattle.std.specs.Option.{option_map}
+use Rattle.std.specs.Prelude.{nat_lt}
+use Rattle.std.proofs.Math.Nat.{min-eq_left, min-eq_right}
 use Rattle.std.proofs.Math.Path.{fun_ext}
+use Rattle.std.proofs.lemmas.Bool.Decides.{leb_tells}
 use Rattle.std.proofs.lemmas.Bool.{cases_eq, cases_lt, false≢true, eq-eqb, ne_eqb}
 use Rattle.page_homes.specs.declared.homes.Home.{Home}
+use Rattle.page_contracts.specs.Stores as meaning
 use Rattle.page_contracts.specs.Stores.{Renews, KeepsAges, tenant_left}
 use Rattle.frame_table.specs.declared.tenant.Tenant.{Tenant}
-use Rattle.frame_table.specs.Ages.{RenewsAge}
 use Rattle.frame_table.specs.Core.{Core, IsCore, LAST_USE, new_tenant, next_use, seat_of, used, with_page, with_tenant}
-use Rattle.frame_table.proofs.YoungFrames.{frame_used, page_comes}
 use Rattle.drum_queue.specs.declared.transfer.Transfer.{Transfer}
 use Rattle.drum_queue.specs.Transfers.{transfer_of}
 use Rattle.page_residence.specs.Resident.{Seats, seat, home_at, age_in, age_at, tenant_at, frame_for, reads, AgesStay, IsRenewed, IsSingle, IsGivenTo, IsTakenFrom}
@@ -33,8 +35,23 @@ tenant_ages seats f g below age k = elim (cases_eq k f) [
 pub marked_ages : (c : Core) (f : ℕ) (on : Bool) → f < length c.seats → AgesStay c.seats (with_tenant c f (marked on)).seats
 marked_ages c f on below = tenant_ages c.seats f (marked on) below (λ t. refl)
 
+-- the number of the next use, as the clauses have it
+pub next_shown : (c : Core) → IsCore c → next_use c.uses ≡ meaning.next_use c.uses
+next_shown c is = elim (leb_tells (suc c.uses) LAST_USE) [
+  | inl t ↦ (let less = t.1 in let small : next_use c.uses ≡ c.uses + 1 = min-eq_left (omega (arith, less)) in small ∙ sym (ap (λ (b : Bool). cond b (c.uses + 1) c.uses) t.0))
+  | inr t ↦ (let past = t.1 in let last : next_use c.uses ≡ LAST_USE = min-eq_right (omega (arith, past)) in last ∙ omega (arith, past, is.numbered) ∙ sym (ap (λ (b : Bool). cond b (c.uses + 1) c.uses) t.0))
+]
+
+-- it is no smaller one
+pub next_grows : (n : ℕ) → n ≤ meaning.next_use n
+next_grows n = by (nat_lt n LAST_USE)
+  where
+    by : (b : Bool) → n ≤ cond b (n + 1) n
+    by true = omega arith
+    by false = omega arith
+
 -- a frame is used
-pub used_renews : (c : Core) (f : ℕ) → IsCore c → IsRenewed f c.seats (used c f).seats
+pub used_renews : (c : Core) (f : ℕ) → IsCore c → IsRenewed f c.seats (used c f).seats c.uses (used c f).uses
 used_renews c f is = at (is_some (seat_of c f)) refl
   where
     renewed : Core
@@ -44,44 +61,46 @@ used_renews c f is = at (is_some (seat_of c f)) refl
     aged_to None some = absurd (false≢true some)
     aged_to (Some t) some = refl
 
+    kept_some : (s : Option Tenant) → is_some (option_map (aged c.uses) s) ≡ is_some s
+    kept_some None = refl
+    kept_some (Some t) = refl
+
     below : is_some (seat_of c f) ≡ true → f < length c.seats
     below some = let own = Rattle.page_residence.proofs.Steps.taken_home c.seats f some in home_below c.seats f own.0 own.1
 
-    last : is_some (seat_of c f) ≡ true → age_in (seat renewed.seats f) ≡ c.uses
-    last some = ap age_in (seat_same c.seats f (option_map (aged c.uses) (seat c.seats f)) (below some)) ∙ aged_to (seat c.seats f) some
+    placed : is_some (seat_of c f) ≡ true → seat renewed.seats f ≡ option_map (aged c.uses) (seat c.seats f)
+    placed some = seat_same c.seats f (option_map (aged c.uses) (seat c.seats f)) (below some)
 
-    at : (b : Bool) → is_some (seat_of c f) ≡ b → IsRenewed f c.seats (cond b renewed c).seats
-    at false none = record { youngest = λ some. absurd (false≢true (sym none ∙ some)); others = λ g ne. refl }
+    last : is_some (seat_of c f) ≡ true → age_in (seat renewed.seats f) ≡ c.uses
+    last some = ap age_in (placed some) ∙ aged_to (seat c.seats f) some
+
+    at : (b : Bool) → is_some (seat_of c f) ≡ b → IsRenewed f c.seats (cond b renewed c).seats c.uses (cond b renewed c).uses
+    at false none = record { own = λ some. absurd (false≢true (sym none ∙ some)); none = λ away. refl; grows = omega arith; others = λ g ne. refl }
     at true some = record {
-      youngest = λ now g ne there. elim (cases_lt c.uses LAST_USE) [
-        | inl before ↦
-            let is_renewed : used c f ≡ renewed = ap (λ (b : Bool). cond b renewed c) some in
-            inl ((subst (λ (q : Core). RenewsAge c q f) is_renewed (frame_used c f is before some)).0 g ne there)
-        | inr past ↦ inr (let l = last some in omega (arith, l, past, is.numbered))
-      ];
+      own = λ now. (last some, next_shown c is);
+      none = λ away. absurd (false≢true (sym away ∙ ap is_some (placed some) ∙ kept_some (seat c.seats f) ∙ some));
+      grows = subst (λ (n : ℕ). c.uses ≤ n) (sym (next_shown c is)) (next_grows c.uses);
       others = λ g ne. ap age_in (seat_other c.seats f g (option_map (aged c.uses) (seat c.seats f)) ne);
     }
 
 -- a frame is given to a page
-pub given_renews : (c : Core) (f : ℕ) (h : Home) → IsCore c → f < length c.seats → IsRenewed f c.seats (with_page c f h).seats
+pub given_renews : (c : Core) (f : ℕ) (h : Home) → IsCore c → f < length c.seats → IsRenewed f c.seats (with_page c f h).seats c.uses (with_page c f h).uses
 given_renews c f h is below = record {
-  youngest = λ now g ne there. elim (cases_lt c.uses LAST_USE) [
-    | inl before ↦ inl ((page_comes c f h is before below).0 g ne there)
-    | inr past ↦ inr (let l = ap age_in (seat_same c.seats f (Some (new_tenant h c.uses)) below) in omega (arith, l, past, is.numbered))
-  ];
+  own = λ now. (ap age_in (seat_same c.seats f (Some (new_tenant h c.uses)) below), next_shown c is);
+  none = λ away. absurd (false≢true (sym away ∙ ap is_some (seat_same c.seats f (Some (new_tenant h c.uses)) below)));
+  grows = subst (λ (n : ℕ). c.uses ≤ n) (sym (next_shown c is)) (next_grows c.uses);
   others = λ g ne. ap age_in (seat_other c.seats f g (Some (new_tenant h c.uses)) ne);
 }
 
 -- before and after it ages stay
-pub renewed_after : (f : ℕ) (a b c : Seats) → AgesStay a b → IsRenewed f b c → IsRenewed f a c
-renewed_after f a b c stay renewed = record { youngest = renewed.youngest; others = λ g ne. renewed.others g ne ∙ stay g }
+pub renewed_after : (f uses uses' : ℕ) (a b c : Seats) → AgesStay a b → IsRenewed f b c uses uses' → IsRenewed f a c uses uses'
+renewed_after f uses uses' a b c stay renewed = record { own = renewed.own; none = renewed.none; grows = renewed.grows; others = λ g ne. renewed.others g ne ∙ stay g }
 
-pub renewed_before : (f : ℕ) (a b c : Seats) → IsRenewed f a b → AgesStay b c → ((g : ℕ) → home_at c g ≡ home_at b g) → IsRenewed f a c
-renewed_before f a b c renewed stay homes = record {
-  youngest = λ some g ne there. elim (renewed.youngest (same f some) g ne (same g there)) [
-    | inl less ↦ inl (let one = stay f in let two = stay g in omega (arith, less, one, two))
-    | inr last ↦ inr (stay f ∙ last)
-  ];
+pub renewed_before : (f uses uses' : ℕ) (a b c : Seats) → IsRenewed f a b uses uses' → AgesStay b c → ((g : ℕ) → home_at c g ≡ home_at b g) → IsRenewed f a c uses uses'
+renewed_before f uses uses' a b c renewed stay homes = record {
+  own = λ some. (let k = renewed.own (sym same ∙ some) in (stay f ∙ k.0, k.1));
+  none = λ away. renewed.none (sym same ∙ away);
+  grows = renewed.grows;
   others = λ g ne. stay g ∙ renewed.others g ne;
 }
   where
@@ -89,8 +108,8 @@ renewed_before f a b c renewed stay homes = record {
     some_home None = refl
     some_home (Some t) = refl
 
-    same : (g : ℕ) → is_some (seat c g) ≡ true → is_some (seat b g) ≡ true
-    same g some = some_home (seat b g) ∙ ap is_some (sym (homes g)) ∙ sym (some_home (seat c g)) ∙ some
+    same : is_some (seat c f) ≡ is_some (seat b f)
+    same = some_home (seat c f) ∙ ap is_some (homes f) ∙ sym (some_home (seat b f))
 
 left_other : (h : ℕ) (o : Option ℕ) → (o ≡ Some h → ⊥) → tenant_left h o ≡ o
 left_other h None none = refl
@@ -114,22 +133,23 @@ module _ (seats seats' : Seats) (queue queue' : List Transfer) where
 
   module _ (f h : ℕ) (read : (g : ℕ) → g ≢ f → reads (transfer_of g queue') ≡ reads (transfer_of g queue)) where
     -- the page of a home was used, or came into its frame
-    pub renews_at : IsSingle seats' → home_at seats' f ≡ Some h → reads (transfer_of f queue') ≡ false → IsRenewed f seats seats' → Renews h (tenant_at seats' queue') (age_at seats queue) (age_at seats' queue')
-    renews_at single given own renewed = record {
-      youngest = λ frame other has ne some.
-          let there = tenant_given seats' queue' frame h has in
-          let same : frame ≡ f = single frame f h there.0 given in
-          let two = tenant_some seats' queue' other some in
-          let its = age_shown seats' queue' other two.1 in
-          let mine : age_at seats' queue' frame ≡ age_in (seat seats' f) = age_shown seats' queue' frame there.1 ∙ ap (λ (n : ℕ). age_in (seat seats' n)) same in
-          elim (renewed.youngest (home_taken seats' f h given) other (λ e. ne (e ∙ sym same)) two.0) [
-            | inl less ↦ inl (omega (arith, less, its, mine))
-            | inr last ↦ inr (mine ∙ last)
-          ];
-      others = λ frame apart.
-          let ne : frame ≢ f = λ e. apart (ap (tenant_at seats' queue') e ∙ tenant_shown seats' queue' f own ∙ given) in
-          age_same frame (renewed.others frame ne) (read frame ne);
-    }
+    pub renews_at : (uses uses' : ℕ) → IsSingle seats' → home_at seats' f ≡ Some h → reads (transfer_of f queue') ≡ false → IsRenewed f seats seats' uses uses'
+        → Renews h (tenant_at seats' queue') (age_at seats queue) (age_at seats' queue') uses uses'
+    renews_at uses uses' single given own renewed =
+        let now = renewed.own (home_taken seats' f h given) in
+        record {
+          counted = record {
+            own = λ frame has.
+                let there = tenant_given seats' queue' frame h has in
+                let same : frame ≡ f = single frame f h there.0 given in
+                (age_shown seats' queue' frame there.1 ∙ ap (λ (n : ℕ). age_in (seat seats' n)) same ∙ now.0, now.1);
+            none = λ away. absurd (away f (tenant_shown seats' queue' f own ∙ given));
+            grows = renewed.grows;
+          };
+          others = λ frame apart.
+              let ne : frame ≢ f = λ e. apart (ap (tenant_at seats' queue') e ∙ tenant_shown seats' queue' f own ∙ given) in
+              age_same frame (renewed.others frame ne) (read frame ne);
+        }
 
     -- the page of a home left its frame
     module _ (from : IsTakenFrom h f seats seats') where
@@ -180,6 +200,13 @@ module _ (seats seats' : Seats) (queue queue' : List Transfer) where
         | inl e ↦ absurd (false≢true (sym (ap is_some (ap (seat seats) e ∙ given.vacant)) ∙ (tenant_some seats queue frame some).0))
         | inr ne ↦ age_same frame (ap age_in (given_others frame ne)) (read frame ne)
       ]
+
+      -- while it waits for the page it shows nothing
+      pub tenants_begun : reads (transfer_of f queue') ≡ true → tenant_at seats' queue' ≡ tenant_at seats queue
+      tenants_begun reading = fun_ext (λ frame. elim (cases_eq frame f) [
+        | inl e ↦ ap (tenant_at seats' queue') e ∙ tenant_hidden seats' queue' f reading ∙ sym (ap (tenant_at seats queue) e ∙ tenant_none seats queue f given.vacant)
+        | inr ne ↦ tenant_same frame (ap (option_map (λ t. t.home.0)) (given_others frame ne)) (read frame ne)
+      ])
 
 -- a home without a frame is given up
 pub tenants_kept : (seats : Seats) (queue : List Transfer) (h frame : ℕ) → frame_for seats h ≡ None → tenant_at seats queue frame ≡ tenant_left h (tenant_at seats queue frame)

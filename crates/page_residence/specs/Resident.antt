@@ -1,9 +1,9 @@
 -- Which home's page each frame has, which transfers move it, and where the pages of all homes are.
-use Rattle.std.specs.Prelude.{◌≡◌, ◌⊎◌, ℕ, suc, ◌<◌, ◌==◌, ◌≢◌, List, [], ◌∷◌, length, map, Bool, true, false, not, ◌&&◌, Option, None, Some, IsSome, is_some, is_none, count_by, if◌then◌else◌, slice_index_or, slice_set}
+use Rattle.std.specs.Prelude.{◌≡◌, ◌≤◌, ◌⊎◌, ℕ, suc, ◌<◌, ◌==◌, ◌≢◌, List, [], ◌∷◌, length, map, Bool, true, false, not, ◌&&◌, Option, None, Some, IsSome, is_some, is_none, count_by, if◌then◌else◌, slice_index_or, slice_set}
 use Rattle.std.specs.Option.{option_map, option_map_or}
 use Rattle.outside.specs.Drums.{IsPage}
 use Rattle.page_contracts.specs.declared.answers.Found.{Found}
-use Rattle.page_contracts.specs.Stores.{HomePlace, LAST_USE, free, away, here}
+use Rattle.page_contracts.specs.Stores.{HomePlace, LAST_USE, free, away, here, next_use}
 use Rattle.page_contracts.specs.Stores as meaning
 use Rattle.frame_table.specs.declared.tenant.Tenant.{Tenant}
 use Rattle.frame_table.specs.Core.{Core}
@@ -127,6 +127,11 @@ pub record IsResident (c : Core) (q : Transfers) : Type 0 where
   pub spent : (f : ℕ) → holds_in (seat c.seats f) ≡ 0
   pub pages : (f h : ℕ) → home_at c.seats f ≡ Some h → reads (transfer_of f q.queued) ≡ false → IsPage (page_in c.words f)
 
+-- No age is that of a use to come: each is the number of an earlier one, until the last.
+pub record AreAged (c : Core) : Type 0 where
+  pub numbered : c.uses ≤ LAST_USE
+  pub each : (f : ℕ) → is_some (seat c.seats f) ≡ true → (age_in (seat c.seats f) ≤ c.uses) × (c.uses < LAST_USE → age_in (seat c.seats f) < c.uses)
+
 -- a frame has the page of a home, whose words are not still to be read
 pub record HasWords (seats : Seats) (queue : List Transfer) (f : ℕ) : Type 0 where
   pub home : ℕ
@@ -144,9 +149,11 @@ pub record SeatsStay (old new : Seats) : Type 0 where
 abbrev pub AgesStay : Seats → Seats → Type 0
 AgesStay old new = (f : ℕ) → age_in (seat new f) ≡ age_in (seat old f)
 
--- a frame that is taken is the youngest, until the numbers of uses end, and the others keep their ages
-pub record IsRenewed (f : ℕ) (old new : Seats) : Type 0 where
-  pub youngest : is_some (seat new f) ≡ true → (g : ℕ) → g ≢ f → is_some (seat new g) ≡ true → (age_in (seat new g) < age_in (seat new f)) ⊎ (age_in (seat new f) ≡ LAST_USE)
+-- a frame that is taken has the number of this use as its age, and the next use has the next number; the others keep their ages
+pub record IsRenewed (f : ℕ) (old new : Seats) (uses uses' : ℕ) : Type 0 where
+  pub own : is_some (seat new f) ≡ true → (age_in (seat new f) ≡ uses) × (uses' ≡ next_use uses)
+  pub none : is_some (seat new f) ≡ false → uses' ≡ uses
+  pub grows : uses ≤ uses'
   pub others : (g : ℕ) → g ≢ f → age_in (seat new g) ≡ age_in (seat old g)
 
 -- the free frame of least number is given to the page of a home, and nobody has pinned it

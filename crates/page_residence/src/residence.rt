@@ -4,8 +4,9 @@ ghost use Rattle.outside.specs.Faults.{CountsUp, Rose};
 ghost use Rattle.outside.specs.Drums.{IsPage, Gives, Keeps, Puts, Spoils};
 ghost use Rattle.drum_queue.specs.Transfers.{transfer_of, without, writes};
 ghost use Rattle.frame_table.specs.Core.{with_words, words_of, holds_of, seat_of};
+ghost use Rattle.page_contracts.specs.Stores.{next_use};
 ghost use Rattle.page_residence.specs.Victims.{MayLeave, victim_of};
-ghost use Rattle.page_residence.specs.Resident.{AgesStay, HasWords, IsGivenTo, IsRenewed, IsRepinned, IsResident, IsTakenFrom, SeatsStay, found_at, frame_for, home_at, page_in, pins_in, reads, seat};
+ghost use Rattle.page_residence.specs.Resident.{AgesStay, AreAged, HasWords, IsGivenTo, IsRenewed, IsRepinned, IsResident, IsTakenFrom, SeatsStay, found_at, frame_for, home_at, page_in, pins_in, reads, seat};
 
 use drum_queue::{Queue, Transfer};
 use frame_table::{Frames, MOST_PINS};
@@ -23,6 +24,7 @@ pub struct Residence {
     /// The transfers of frames that are queued, the oldest first.
     pub queue: Queue,
     ghost resident: { IsResident frames queue },
+    ghost aged: { AreAged frames },
 }
 
 // The words of a page are copied into a frame that is taken.
@@ -174,6 +176,7 @@ impl Residence {
         requires here { HasWords self.old.frames.seats self.old.queue.queued f.0 }
         requires at { at < PAGE_WORDS }
         ensures seats { self.new.frames.seats ≡ self.old.frames.seats }
+        ensures uses { self.new.frames.uses ≡ self.old.frames.uses }
         ensures words { self.new.frames.words ≡ slice_set self.old.frames.words f.0 (slice_set (page_in self.old.frames.words f.0) at word) }
         ensures queue { self.new.queue ≡ self.old.queue }
     {
@@ -184,7 +187,7 @@ impl Residence {
     pub fn touch(&mut self, f: FrameId)
         requires { f.0 < length self.old.frames.seats }
         ensures seats { SeatsStay self.old.frames.seats self.new.frames.seats }
-        ensures renews { IsRenewed f.0 self.old.frames.seats self.new.frames.seats }
+        ensures renews { IsRenewed f.0 self.old.frames.seats self.new.frames.seats self.old.frames.uses self.new.frames.uses }
         ensures words { self.new.frames.words ≡ self.old.frames.words }
         ensures queue { self.new.queue ≡ self.old.queue }
     {
@@ -197,6 +200,7 @@ impl Residence {
         ensures answer { result ≡ writes (transfer_of f.0 self.old.queue.queued) }
         ensures seats { SeatsStay self.old.frames.seats self.new.frames.seats }
         ensures ages { AgesStay self.old.frames.seats self.new.frames.seats }
+        ensures uses { self.new.frames.uses ≡ self.old.frames.uses }
         ensures words { self.new.frames.words ≡ self.old.frames.words }
         ensures queue { self.new.queue.queued ≡ (if result then without f.0 self.old.queue.queued else self.old.queue.queued) }
     {
@@ -217,7 +221,7 @@ impl Residence {
         requires spare { 0 < count_by is_none self.old.frames.seats }
         requires page { IsPage words.now }
         ensures given { IsGivenTo home.0 result.0 self.old.frames.seats self.new.frames.seats }
-        ensures renews { IsRenewed result.0 self.old.frames.seats self.new.frames.seats }
+        ensures renews { IsRenewed result.0 self.old.frames.seats self.new.frames.seats self.old.frames.uses self.new.frames.uses }
         ensures words { self.new.frames.words ≡ slice_set self.old.frames.words result.0 words.now }
         ensures queue { self.new.queue ≡ self.old.queue }
         ensures idle { transfer_of result.0 self.old.queue.queued ≡ None }
@@ -238,6 +242,7 @@ impl Residence {
         requires away { frame_for self.old.frames.seats home.0 ≡ None }
         ensures none { result ≡ None → count_by is_none self.old.frames.seats ≡ 0 }
         ensures same { result ≡ None → self.new ≡ self.old }
+        ensures uses { IsSome result → self.new.frames.uses ≡ next_use self.old.frames.uses }
         ensures given { (f : ℕ) → result ≡ Some (record { 0 = f }) → IsGivenTo home.0 f self.old.frames.seats self.new.frames.seats }
         ensures idle { (f : ℕ) → result ≡ Some (record { 0 = f }) → transfer_of f self.old.queue.queued ≡ None }
         ensures words { self.new.frames.words ≡ self.old.frames.words }
@@ -257,6 +262,7 @@ impl Residence {
         requires still { transfer_of f.0 self.old.queue.queued ≡ None }
         ensures seats { SeatsStay self.old.frames.seats self.new.frames.seats }
         ensures ages { AgesStay self.old.frames.seats self.new.frames.seats }
+        ensures uses { self.new.frames.uses ≡ self.old.frames.uses }
         ensures words { self.new.frames.words ≡ self.old.frames.words }
         ensures queue { self.new.queue.queued ≡ self.old.queue.queued ++ Transfer.Write f home ∷ [] }
     {
@@ -269,8 +275,9 @@ impl Residence {
         requires oldest { slice_get self.old.queue.queued 0 ≡ Some (Transfer.Read f home) }
         requires page { home.0 < D.size drum.old }
         ensures seats { SeatsStay self.old.frames.seats self.new.frames.seats }
-        ensures renews { OnOk result (IsRenewed f.0 self.old.frames.seats self.new.frames.seats) }
+        ensures renews { OnOk result (IsRenewed f.0 self.old.frames.seats self.new.frames.seats self.old.frames.uses self.new.frames.uses) }
         ensures unused { OnErr result (self.new.frames.seats ≡ self.old.frames.seats) }
+        ensures uncounted_use { OnErr result (self.new.frames.uses ≡ self.old.frames.uses) }
         ensures words { (words : List ℕ) × (self.new.frames.words ≡ slice_set self.old.frames.words f.0 words) }
         ensures queue { OnOk result (self.new.queue.queued ≡ drop 1 self.old.queue.queued) }
         ensures failed { OnErr result (self.new.queue ≡ self.old.queue) }
@@ -296,6 +303,7 @@ impl Residence {
         requires unpinned { pins_in (seat self.old.frames.seats f.0) ≡ 0 }
         requires page { home.0 < D.size drum.old }
         ensures taken { OnOk result (IsTakenFrom home.0 f.0 self.old.frames.seats self.new.frames.seats) }
+        ensures uses { self.new.frames.uses ≡ self.old.frames.uses }
         ensures words { self.new.frames.words ≡ self.old.frames.words }
         ensures queue { OnOk result (self.new.queue.queued ≡ drop 1 self.old.queue.queued) }
         ensures failed { OnErr result (self.new ≡ self.old) }
@@ -317,6 +325,7 @@ impl Residence {
         requires oldest { slice_get self.old.queue.queued 0 ≡ Some (Transfer.Write f home) }
         requires unpinned { pins_in (seat self.old.frames.seats f.0) ≡ 0 }
         ensures taken { IsTakenFrom home.0 f.0 self.old.frames.seats self.new.frames.seats }
+        ensures uses { self.new.frames.uses ≡ self.old.frames.uses }
         ensures words { self.new.frames.words ≡ self.old.frames.words }
         ensures queue { self.new.queue.queued ≡ drop 1 self.old.queue.queued }
     {
@@ -330,6 +339,7 @@ impl Residence {
         requires unpinned { pins_in (seat self.old.frames.seats f.0) ≡ 0 }
         ensures answer { result ≡ transfer_of f.0 self.old.queue.queued }
         ensures taken { IsTakenFrom home.0 f.0 self.old.frames.seats self.new.frames.seats }
+        ensures uses { self.new.frames.uses ≡ self.old.frames.uses }
         ensures words { self.new.frames.words ≡ self.old.frames.words }
         ensures queue { self.new.queue.queued ≡ without f.0 self.old.queue.queued }
     {
@@ -386,6 +396,7 @@ impl Residence {
         requires given { IsSome (seat self.old.frames.seats f.0) }
         requires few { pins_in (seat self.old.frames.seats f.0) < MOST_PINS }
         ensures seats { IsRepinned f.0 (pins_in (seat self.old.frames.seats f.0) + 1) self.old.frames.seats self.new.frames.seats }
+        ensures uses { self.new.frames.uses ≡ self.old.frames.uses }
         ensures words { self.new.frames.words ≡ self.old.frames.words }
         ensures queue { self.new.queue ≡ self.old.queue }
     {
@@ -396,6 +407,7 @@ impl Residence {
     pub fn unpin(&mut self, f: FrameId)
         requires { 0 < pins_in (seat self.old.frames.seats f.0) }
         ensures seats { IsRepinned f.0 (pins_in (seat self.old.frames.seats f.0) - 1) self.old.frames.seats self.new.frames.seats }
+        ensures uses { self.new.frames.uses ≡ self.old.frames.uses }
         ensures words { self.new.frames.words ≡ self.old.frames.words }
         ensures queue { self.new.queue ≡ self.old.queue }
     {

@@ -5,4 +5,7 @@
 
 mod laws;
 
-pub use laws::{frames_are_shared_out, pages_and_maps_have_one_place, pages_and_maps_stand_apart};
+pub use laws::{
+    frames_are_left_over, frames_are_shared_out, pages_and_maps_have_one_place,
+    pages_and_maps_stand_apart, who_waits_has_a_victim,
+};

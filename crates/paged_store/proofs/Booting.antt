@@ -1,5 +1,5 @@
 -- What a store keeps at the beginning.
-use Rattle.std.proofs.Common.{◌≡◌, ℕ, zero, suc, ◌≤◌, List, [], length, replicate, None, Some, false, refl, sym, ◌∙◌, ap, subst, get_or}
+use Rattle.std.proofs.Common.{◌≡◌, arith, ℕ, zero, suc, ◌≤◌, List, [], length, replicate, None, Some, false, refl, sym, ◌∙◌, ap, subst, get_or}
 use Rattle.std.specs.Option.{option_map}
 use Rattle.std.proofs.lemmas.Bool.{false≢true}
 use Rattle.std.proofs.lemmas.List.{length-replicate}
@@ -38,5 +38,7 @@ kept_none frames pages few = record {
   framed = λ f h has. absurd (none_home frames f h has);
   held = λ k h among. absurd (false≢true (sym (ap (is_among h) (nothing_held k)) ∙ among));
   once = λ k. ap is_distinct (nothing_held k);
+  few_held = λ k. (let none = ap (λ (hs : List ℕ). length hs) (nothing_held k) in omega (arith, none));
+  none_held = λ k past apart. nothing_held k;
   pinned = λ f h has. absurd (none_home frames f h has);
 }

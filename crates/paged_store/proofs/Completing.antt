@@ -1,16 +1,19 @@
 -- The oldest transfer ends: what it leaves of the pages, and of the words that a drum tells.
-use Rattle.std.proofs.Common.{◌≡◌, ◌≢◌, ℕ, ◌<◌, ◌≤◌, inl, inr, List, [], length, map, Option, None, Some, Bool, true, false, refl, sym, ◌∙◌, ap, subst, set, get_or}
+use Rattle.std.proofs.Common.{◌≡◌, ◌≢◌, ℕ, ◌<◌, ◌≤◌, inl, inr, List, [], length, map, Option, None, Some, Bool, true, false, cond, refl, sym, ◌∙◌, ap, subst, set, get_or}
 use Rattle.std.specs.Option.{option_map}
 use Rattle.std.proofs.Math.Path.{fun_ext}
-use Rattle.std.proofs.lemmas.Bool.{cases_eq, false≢true}
+use Rattle.std.proofs.lemmas.Bool.{cases_eq, false≢true, ne_eqb}
 use Rattle.std.proofs.lemmas.List.{get_or-set_same, get_or-set_other, length-set, set-get_or, map-set}
 use Rattle.outside.specs.Drums.{IsPage, page_at}
 use Rattle.page_contracts.specs.DrumWords.{DrumWords, Stands}
-use Rattle.page_contracts.specs.Stores.{HomePlace, free, away, here, place, is_taken, content, over_drum, FitsHomes}
+use Rattle.page_contracts.specs.Stores.{HomePlace, free, away, here, place, is_taken, content, over_drum, FitsHomes, tenant_left}
+use Rattle.page_contracts.specs.declared.answers.Found.{Found}
 use Rattle.drum_queue.specs.declared.transfer.Transfer.{Transfer}
 use Rattle.drum_queue.specs.Transfers.{transfer_of}
-use Rattle.page_residence.specs.Resident.{Seats, seat, home_at, frame_for, framed, page_in, places, reads, IsSingle, SeatsStay, IsTakenFrom}
-use Rattle.page_residence.proofs.Seating.{frame_is, frame_none, frame_alike, frame_other, seat_same, seat_other, home_below}
+use Rattle.page_residence.specs.Resident.{Seats, seat, home_at, found_at, found_in, frame_for, framed, tenant_at, page_in, places, reads, IsSingle, SeatsStay, IsTakenFrom}
+use Rattle.page_residence.proofs.Seating.{frame_has, frame_is, frame_none, frame_alike, frame_other, seat_same, seat_other, home_below}
+use Rattle.page_residence.proofs.Aging.{tenant_given, tenant_shown}
+use Rattle.page_residence.proofs.Renewing.{tenant_same}
 use Rattle.page_residence.proofs.Placing.{places_changed, framed_other, shown_in, gone_in}
 
 -- one home's page is elsewhere, and its content is the same: the words of the drum there are those that it had, or it has those that were there
@@ -116,3 +119,43 @@ departed_places flags seats seats' words queue queue' f h single single' from ta
           absurd cc
       | inr ne ↦ ne (single g f h (sym (ap (option_map (λ t. t.home.0)) (ap (λ (ss : Seats). seat ss g) from.seats ∙ seat_other seats f g None ne)) ∙ has ∙ ap Some e) from.had)
     ])
+
+-- each other page is found where it was
+module _ (seats seats' : Seats) (queue queue' : List Transfer) (f h : ℕ) where
+  found_by : (k : ℕ) → frame_for seats' k ≡ frame_for seats k → ((g : ℕ) → frame_for seats k ≡ Some g → reads (transfer_of g queue') ≡ reads (transfer_of g queue)) → found_at seats' queue' k ≡ found_at seats queue k
+  unfolding found_at
+  found_by k same read = ap (found_in queue') same ∙ at (frame_for seats k) refl
+    where
+      at : (o : Option ℕ) → frame_for seats k ≡ o → found_in queue' o ≡ found_in queue o
+      at None is = refl
+      at (Some g) is = ap (λ (b : Bool). cond b None (Some (let x : Found = record { 0 = g } in x))) (read g is)
+
+  apart_from : (k g : ℕ) → k ≢ h → home_at seats f ≡ Some h → frame_for seats k ≡ Some g → g ≢ f
+  apart_from k g other given is e =
+      let two : Some k ≡ Some h = sym (frame_has seats k g is) ∙ ap (home_at seats) e ∙ given in
+      let same : k ≡ h = cc in
+      other same
+
+  pub came_found : IsSingle seats → ((g : ℕ) → home_at seats' g ≡ home_at seats g) → home_at seats f ≡ Some h → ((g : ℕ) → g ≢ f → reads (transfer_of g queue') ≡ reads (transfer_of g queue)) → (k : ℕ) → k ≢ h
+      → found_at seats' queue' k ≡ found_at seats queue k
+  came_found single homes given read k other = found_by k (frame_alike seats seats' k single homes) (λ g is. read g (apart_from k g other given is))
+
+  pub left_found : IsSingle seats → IsSingle seats' → IsTakenFrom h f seats seats' → ((g : ℕ) → g ≢ f → reads (transfer_of g queue') ≡ reads (transfer_of g queue)) → (k : ℕ) → k ≢ h → found_at seats' queue' k ≡ found_at seats queue k
+  left_found single single' from read k other = found_by k (left_frame k other) (λ g is. read g (apart_from k g other from.had is))
+    where
+      left_frame : (k : ℕ) → k ≢ h → frame_for seats' k ≡ frame_for seats k
+      left_frame k other =
+          ap (λ (ss : Seats). frame_for ss k) from.seats
+          ∙ frame_other seats f h k None single (subst IsSingle from.seats single') (home_below seats f h from.had) (λ x has. (let two : Some x ≡ Some h = sym has ∙ from.had in let e : x ≡ h = cc in e)) (λ x has. absurd cc) other
+
+  -- the page that has come has its frame, and each other frame what it had
+  pub tenants_came : ((g : ℕ) → g ≢ f → reads (transfer_of g queue') ≡ reads (transfer_of g queue)) → IsSingle seats → ((g : ℕ) → home_at seats' g ≡ home_at seats g) → home_at seats f ≡ Some h → reads (transfer_of f queue') ≡ false
+      → (g : ℕ) → (tenant_at seats' queue' g ≡ Some h → ⊥) → tenant_at seats' queue' g ≡ tenant_left h (tenant_at seats queue g)
+  tenants_came read single homes given own g apart = elim (cases_eq g f) [
+    | inl e ↦ absurd (apart (ap (tenant_at seats' queue') e ∙ tenant_shown seats' queue' f own ∙ homes f ∙ given))
+    | inr ne ↦ tenant_same seats seats' queue queue' g (homes g) (read g ne) ∙ sym (unlike (tenant_at seats queue g) (λ has. ne (single g f h (tenant_given seats queue g h has).0 given)))
+  ]
+    where
+      unlike : (o : Option ℕ) → (o ≡ Some h → ⊥) → tenant_left h o ≡ o
+      unlike None none = refl
+      unlike (Some k) none = ap (λ (b : Bool). cond b None (Some k)) (ne_eqb k h (λ e. none (ap (λ (n : ℕ). let o : Option ℕ = Some n in o) e)))

@@ -7,7 +7,7 @@ use Rattle.std.proofs.lemmas.List.{get_or-set_other}
 use Rattle.outside.specs.Drums.{IsPage}
 use Rattle.page_homes.specs.declared.homes.Home.{Home}
 use Rattle.page_homes.specs.declared.homes.FrameId.{FrameId}
-use Rattle.page_contracts.specs.Stores.{HomePlace, KeepsAges, Renews, free, away, here, place}
+use Rattle.page_contracts.specs.Stores.{HomePlace, KeepsAges, Renews, free, away, here, place, tenant_left}
 use Rattle.page_contracts.specs.Stores as meaning
 use Rattle.drum_queue.specs.declared.transfer.Transfer.{Transfer}
 use Rattle.drum_queue.specs.declared.transfer.Transfer.TheVariants.{Read, Write}
@@ -16,15 +16,15 @@ use Rattle.page_residence.specs.declared.residence.Residence.{Residence}
 use Rattle.paged_store.specs.UntoldNeeds.{Needs}
 use Rattle.paged_store.specs.HeldHomes.{held_by}
 use Rattle.paged_store.specs.Keeping.{IsKept, is_among}
-use Rattle.page_residence.specs.Resident.{Seats, age_at, seat, home_at, framed, page_in, pins_in, places, reads, meant, tenant_at, SeatsStay, IsRenewed, IsTakenFrom}
+use Rattle.page_residence.specs.Resident.{Seats, age_at, found_at, seat, home_at, framed, page_in, pins_in, places, reads, meant, tenant_at, SeatsStay, IsRenewed, IsTakenFrom}
 use Rattle.page_residence.proofs.Seating.{frame_is, home_below}
 use Rattle.page_residence.proofs.Agreeing.{Agrees, agrees}
 use Rattle.page_residence.proofs.Queues.{without_own, without_other}
 use Rattle.paged_store.specs.KeptHomes.{still_frame, none_counted}
 use Rattle.paged_store.proofs.KeptThrough.{kept_stays, kept_taken}
 use Rattle.page_residence.proofs.Placing.{framed_other, place_taken, places_same, reading_in, shown_in}
-use Rattle.page_residence.proofs.Renewing.{keeps_at, renews_at}
-use Rattle.paged_store.proofs.Completing.{arrived_places, departed_places}
+use Rattle.page_residence.proofs.Renewing.{keeps_at, renews_at, tenants_left}
+use Rattle.paged_store.proofs.Completing.{arrived_places, came_found, departed_places, left_found, tenants_came}
 use Rattle.paged_store.proofs.Resting.{rescued_idle}
 use Rattle.page_residence.proofs.Steps.{oldest_is, oldest_home, spare_set}
 
@@ -41,7 +41,9 @@ pub record HasArrived (flags : List Bool) (o n : Residence) (f h : ℕ) : Type 0
   pub homes : homes_in flags n ≡ set (homes_in flags o) h (here (page_in n.frames.words f))
   pub was : place (homes_in flags o) h ≡ away
   pub oldest : map meant o.queue.queued ≡ meaning.arrival h ∷ map meant n.queue.queued
-  pub came : Renews h (tenant_at n.frames.seats n.queue.queued) (age_at o.frames.seats o.queue.queued) (age_at n.frames.seats n.queue.queued)
+  pub came : Renews h (tenant_at n.frames.seats n.queue.queued) (age_at o.frames.seats o.queue.queued) (age_at n.frames.seats n.queue.queued) o.frames.uses n.frames.uses
+  pub found : (k : ℕ) → k ≢ h → found_at n.frames.seats n.queue.queued k ≡ found_at o.frames.seats o.queue.queued k
+  pub tenants : (g : ℕ) → (tenant_at n.frames.seats n.queue.queued g ≡ Some h → ⊥) → tenant_at n.frames.seats n.queue.queued g ≡ tenant_left h (tenant_at o.frames.seats o.queue.queued g)
 
 pub record HasDeparted (flags : List Bool) (o n : Residence) (f h : ℕ) : Type 0 where
   pub homes : homes_in flags n ≡ set (homes_in flags o) h away
@@ -50,12 +52,14 @@ pub record HasDeparted (flags : List Bool) (o n : Residence) (f h : ℕ) : Type 
   pub page : IsPage (page_in o.frames.words f)
   pub spare : count_by is_none n.frames.seats ≡ count_by is_none o.frames.seats + 1
   pub went : KeepsAges h (tenant_at o.frames.seats o.queue.queued) (age_at o.frames.seats o.queue.queued) (age_at n.frames.seats n.queue.queued)
+  pub found : (k : ℕ) → k ≢ h → found_at n.frames.seats n.queue.queued k ≡ found_at o.frames.seats o.queue.queued k
+  pub tenants : (g : ℕ) → tenant_at n.frames.seats n.queue.queued g ≡ tenant_left h (tenant_at o.frames.seats o.queue.queued g)
 
 module _ (flags : List Bool) (o n : Residence) (f : FrameId) (h : Home) where
   agree : Agrees o.frames o.queue
   agree = agrees o.frames o.queue o.resident
 
-  pub arrived : slice_get o.queue.queued 0 ≡ Some (Read f h) → get_or flags h.0 false ≡ true → SeatsStay o.frames.seats n.frames.seats → IsRenewed f.0 o.frames.seats n.frames.seats → (ws : List ℕ) → n.frames.words ≡ set o.frames.words f.0 ws
+  pub arrived : slice_get o.queue.queued 0 ≡ Some (Read f h) → get_or flags h.0 false ≡ true → SeatsStay o.frames.seats n.frames.seats → IsRenewed f.0 o.frames.seats n.frames.seats o.frames.uses n.frames.uses → (ws : List ℕ) → n.frames.words ≡ set o.frames.words f.0 ws
       → n.queue.queued ≡ drop 1 o.queue.queued → HasArrived flags o n f.0 h.0
   arrived first taken stays renewed ws words queue =
       let oldest = oldest_is (Read f h) o.queue.queued (agrees o.frames o.queue o.resident).once first in
@@ -71,7 +75,9 @@ module _ (flags : List Bool) (o n : Residence) (f : FrameId) (h : Home) where
         was = place_taken flags (framed o.frames.seats o.frames.words o.queue.queued) h.0 taken
             ∙ reading_in o.frames.seats o.frames.words o.queue.queued h.0 f.0 (frame_is o.frames.seats h.0 f.0 o.resident.single given) (ap reads oldest.own);
         oldest = head_meant o.queue.queued (Read f h) first ∙ ap (λ (ts : List Transfer). meaning.arrival h.0 ∷ map meant ts) (sym queue);
-        came = renews_at o.frames.seats n.frames.seats o.queue.queued n.queue.queued f.0 h.0 others n.resident.single (stays.homes f.0 ∙ given) own renewed;
+        found = came_found o.frames.seats n.frames.seats o.queue.queued n.queue.queued f.0 h.0 o.resident.single stays.homes given others;
+        tenants = tenants_came o.frames.seats n.frames.seats o.queue.queued n.queue.queued f.0 h.0 others o.resident.single stays.homes given own;
+        came = renews_at o.frames.seats n.frames.seats o.queue.queued n.queue.queued f.0 h.0 others o.frames.uses n.frames.uses n.resident.single (stays.homes f.0 ∙ given) own renewed;
       }
 
   pub departed : slice_get o.queue.queued 0 ≡ Some (Write f h) → get_or flags h.0 false ≡ true → IsTakenFrom h.0 f.0 o.frames.seats n.frames.seats → n.frames.words ≡ o.frames.words
@@ -94,6 +100,8 @@ module _ (flags : List Bool) (o n : Residence) (f : FrameId) (h : Home) where
         oldest = head_meant o.queue.queued (Write f h) first ∙ ap (λ (ts : List Transfer). meaning.departure h.0 ∷ map meant ts) (sym queue);
         page = o.resident.pages f.0 h.0 from.had read;
         spare = omega (arith, spare, had, now);
+        found = left_found o.frames.seats n.frames.seats o.queue.queued n.queue.queued f.0 h.0 o.resident.single n.resident.single from others;
+        tenants = tenants_left o.frames.seats n.frames.seats o.queue.queued n.queue.queued f.0 h.0 others from o.resident.single;
         went = keeps_at o.frames.seats n.frames.seats o.queue.queued n.queue.queued f.0 h.0 others from;
       }
     where

@@ -1,5 +1,5 @@
 -- What is held for one holder, with a home more and without one.
-use Rattle.std.proofs.Common.{◌≡◌, ◌≢◌, ℕ, ◌==◌, List, [], ◌∷◌, ◌++◌, Bool, true, false, not, cond, ◌||◌, refl, sym, ◌∙◌, ap}
+use Rattle.std.proofs.Common.{◌≡◌, ◌≢◌, ℕ, suc, ◌+◌, ◌≤◌, ◌==◌, arith, length, List, [], ◌∷◌, ◌++◌, Bool, true, false, not, cond, ◌||◌, refl, sym, ◌∙◌, ap}
 use Rattle.std.proofs.lemmas.Bool.{false≢true, true≢false, not-true, not_from_false, eqb-true, eq-eqb, ne_eqb, and_parts, and_from}
 use Rattle.paged_store.specs.Keeping.{is_among, is_distinct}
 use Rattle.paged_store.specs.StoreSteps.{all_but}
@@ -93,3 +93,17 @@ others_all (x ∷ hs) h absent = at (x == h) absent (others_all hs h)
     at : (b : Bool) → (b || is_among h hs) ≡ false → (is_among h hs ≡ false → all_but h hs ≡ hs) → cond (not b) (x ∷ all_but h hs) (all_but h hs) ≡ x ∷ hs
     at true is rest = absurd (true≢false is)
     at false is rest = ap (λ (l : List ℕ). x ∷ l) (rest is)
+
+-- a list with one more is longer by one
+pub length-push : (hs : List ℕ) (h : ℕ) → length (hs ++ h ∷ []) ≡ length hs + 1
+length-push [] h = refl
+length-push (x ∷ xs) h = (let rest = length-push xs h in omega (arith, rest))
+
+-- all but one are no more
+pub others_fewer : (hs : List ℕ) (h : ℕ) → length (all_but h hs) ≤ length hs
+others_fewer [] h = omega arith
+others_fewer (x ∷ xs) h = at (x == h) (others_fewer xs h)
+  where
+    at : (b : Bool) → length (all_but h xs) ≤ length xs → length (cond (not b) (x ∷ all_but h xs) (all_but h xs)) ≤ suc (length xs)
+    at true rest = omega (arith, rest)
+    at false rest = omega (arith, rest)

@@ -9,6 +9,8 @@ use Rattle.drum_queue.specs.Transfers.{transfer_of}
 use Rattle.paged_store.specs.UntoldNeeds.{Needs}
 use Rattle.paged_store.specs.HeldHomes.{held_by}
 use Rattle.page_residence.specs.Resident.{Seats, seat, home_at, frame_for, pins_in, IsSingle, SeatsStay, IsGivenTo, IsTakenFrom, IsRepinned}
+use Rattle.page_contracts.specs.declared.store.TheConstants.{CONSOLE_HOLDER}
+use Rattle.page_contracts.specs.Stores.{members_of, most_held}
 use Rattle.paged_store.specs.Keeping.{is_among, is_distinct, is_still, IsKept}
 use Rattle.page_residence.proofs.Seating.{frame_is, frame_alike, seat_same, seat_other, home_below}
 use Rattle.paged_store.specs.KeptHomes.{among_counts, none_counted, still_is, still_frame, frame_still}
@@ -35,6 +37,8 @@ module _ (seats : Seats) (queue : List Transfer) (flags : List Bool) (holders : 
         let s = still_frame seats queue h (kept.held k h among) in
         frame_still seats' queue' h s.frame (frame_alike seats seats' h single stays.homes ∙ s.is) (idle s.frame (held_pinned k h s.frame among s.given) s.idle);
     once = kept.once;
+    few_held = kept.few_held;
+    none_held = λ k past apart. kept.none_held k (subst (λ (n : ℕ). members_of n ≤ k) stays.size past) apart;
     pinned = λ f h given. stays.pins f ∙ kept.pinned f h (sym (stays.homes f) ∙ given);
   }
 
@@ -59,6 +63,8 @@ module _ (seats : Seats) (queue : List Transfer) (flags : List Bool) (holders : 
         let other : s.frame ≢ f = λ e. (let no : None ≡ Some x = sym (ap (option_map (λ t. t.home.0)) given.vacant) ∙ ap (home_at seats) (sym e) ∙ s.given in let r : ⊥ = absurd cc in r) in
         frame_still seats' queue' x s.frame (frame_is seats' x s.frame single' (there s.frame other ∙ s.given)) (idle s.frame other s.idle);
     once = kept.once;
+    few_held = kept.few_held;
+    none_held = λ i past apart. kept.none_held i (subst (λ (n : ℕ). members_of n ≤ i) (ap (λ (ss : Seats). length ss) given.seats ∙ length-set seats f (Some given.tenant)) past) apart;
     pinned = λ g k has. elim (cases_eq g f) [
       | inl e ↦
           let two : Some given.tenant.home.0 ≡ Some k = sym (ap (option_map (λ t. t.home.0)) (own g e)) ∙ has in
@@ -95,6 +101,8 @@ module _ (seats : Seats) (queue : List Transfer) (flags : List Bool) (holders : 
         let other : s.frame ≢ f = λ e. (let some = held_pinned k x s.frame among s.given in let none = ap (λ (g : ℕ). pins_in (seat seats g)) e in let r : ⊥ = absurd (omega (arith, some, none, unpinned)) in r) in
         frame_still seats' queue' x s.frame (frame_is seats' x s.frame single' (there s.frame other ∙ s.given)) (idle s.frame other s.idle);
     once = kept.once;
+    few_held = kept.few_held;
+    none_held = λ i past apart'. kept.none_held i (subst (λ (n : ℕ). members_of n ≤ i) (ap (λ (ss : Seats). length ss) taken.seats ∙ length-set seats f None) past) apart';
     pinned = λ g k has. ap pins_in (seat_there g (apart g k has)) ∙ kept.pinned g k (sym (there g (apart g k has)) ∙ has);
   }
     where
@@ -115,10 +123,10 @@ module _ (seats : Seats) (queue : List Transfer) (flags : List Bool) (holders : 
 
   -- a home is held for one more, or for one less
   pub kept_repinned : (seats' : Seats) (f h k pins : ℕ) (hs : List ℕ) → IsSingle seats → home_at seats f ≡ Some h → IsRepinned f pins seats seats' → k < length holders
-      → ((x : ℕ) → x ≢ h → is_among x hs ≡ is_among x (held_by holders k)) → is_distinct hs ≡ true → (is_among h hs ≡ true → is_still seats queue h ≡ true)
+      → ((x : ℕ) → x ≢ h → is_among x hs ≡ is_among x (held_by holders k)) → is_distinct hs ≡ true → length hs ≤ most_held k → (members_of (length seats) ≤ k → k ≢ CONSOLE_HOLDER → hs ≡ []) → (is_among h hs ≡ true → is_still seats queue h ≡ true)
       → pins + cond (is_among h (held_by holders k)) 1 0 ≡ pins_in (seat seats f) + cond (is_among h hs) 1 0
       → IsKept seats' queue flags (set holders k hs) untold
-  kept_repinned seats' f h k pins hs single given repinned below same distinct still count = record {
+  kept_repinned seats' f h k pins hs single given repinned below same distinct few only still count = record {
     few = kept.few;
     room = length-set holders k hs ∙ kept.room;
     homes = kept.homes;
@@ -135,6 +143,14 @@ module _ (seats : Seats) (queue : List Transfer) (flags : List Bool) (holders : 
     once = λ i. elim (cases_eq i k) [
       | inl e ↦ ap is_distinct (ap (held_by (set holders k hs)) e ∙ get_or-set_same holders k hs [] below) ∙ distinct
       | inr other ↦ ap is_distinct (get_or-set_other holders k i hs [] other) ∙ kept.once i
+    ];
+    few_held = λ i. elim (cases_eq i k) [
+      | inl e ↦ subst (λ (n : ℕ). length (held_by (set holders k hs) n) ≤ most_held n) (sym e) (subst (λ (l : List ℕ). length l ≤ most_held k) (sym (get_or-set_same holders k hs [] below)) few)
+      | inr other ↦ subst (λ (l : List ℕ). length l ≤ most_held i) (sym (get_or-set_other holders k i hs [] other)) (kept.few_held i)
+    ];
+    none_held = λ i past apart. elim (cases_eq i k) [
+      | inl e ↦ ap (held_by (set holders k hs)) e ∙ get_or-set_same holders k hs [] below ∙ only (subst (λ (n : ℕ). members_of n ≤ k) repinned.size (subst (λ (n : ℕ). members_of (length seats') ≤ n) e past)) (λ same. apart (e ∙ same))
+      | inr other ↦ get_or-set_other holders k i hs [] other ∙ kept.none_held i (subst (λ (n : ℕ). members_of n ≤ i) repinned.size past) apart
     ];
     pinned = λ g x has. elim (cases_eq g f) [
       | inl e ↦

@@ -1,5 +1,5 @@
 -- A page is made.
-use Rattle.std.proofs.Common.{◌≡◌, ℕ, zero, suc, ◌+◌, ◌<◌, inl, inr, List, length, map, count_by, replicate, None, Some, Bool, true, false, not, cond, refl, sym, ◌∙◌, ap, subst, arith, set, get_or}
+use Rattle.std.proofs.Common.{◌≡◌, ◌≢◌, ℕ, zero, suc, ◌+◌, ◌<◌, ◌≤◌, is_some, inl, inr, List, length, map, count_by, replicate, None, Some, Bool, true, false, not, cond, refl, sym, ◌∙◌, ap, subst, arith, set, get_or}
 use Rattle.std.specs.Prelude.{is_none, nat_lt}
 use Rattle.std.proofs.lemmas.Bool.{cases_eq, false≢true, ltb-false}
 use Rattle.std.proofs.lemmas.List.{get_or-set_same, get_or-set_other, length-set, length-replicate}
@@ -8,19 +8,21 @@ use Rattle.outside.specs.Drums.{IsPage}
 use Rattle.outside.specs.declared.TheConstants.{PAGE_WORDS}
 use Rattle.machine_names.specs.PageWords.{zero_words}
 use Rattle.page_contracts.specs.declared.store.Room.TheVariants.{Enough, NeedFrame, Full}
-use Rattle.page_contracts.specs.Stores.{Renews, free, here, place, room_of, free_homes}
+use Rattle.page_contracts.specs.Stores.{RenewsAgain, LAST_USE, free, here, place, room_of, free_homes}
+use Rattle.page_contracts.proofs.Losing.{used_once}
 use Rattle.drum_queue.specs.Transfers.{Transfers, transfer_of}
 use Rattle.paged_store.specs.declared.store.PagedStore.{PagedStore}
 use Rattle.page_residence.specs.declared.residence.Residence.{Residence}
-use Rattle.paged_store.specs.Keeping.{IsKept, members_of}
-use Rattle.page_residence.specs.Resident.{Seats, age_at, frame_for, framed, meant, places, placed, reads, tenant_at, IsGivenTo, IsRenewed}
+use Rattle.paged_store.specs.Keeping.{IsKept}
+use Rattle.page_contracts.specs.Stores.{members_of}
+use Rattle.page_residence.specs.Resident.{Seats, seat, age_at, found_at, found_in, frame_for, framed, meant, places, placed, reads, tenant_at, IsGivenTo, IsRenewed}
 use Rattle.page_residence.proofs.Renewing.{given_home, renews_at, tenants_made}
 use Rattle.page_residence.proofs.Seating.{frame_none}
 use Rattle.paged_store.proofs.KeptThrough.{kept_given}
 use Rattle.page_residence.proofs.Placing.{place_at, places_length, free_is, framed_busy}
 use Rattle.paged_store.specs.StoreMeaning.{homes_of}
 use Rattle.paged_store.specs.StoreSound.{marked}
-use Rattle.paged_store.proofs.Fetching.{given_spare, seated_homes}
+use Rattle.paged_store.proofs.Fetching.{given_other, given_spare, seated_homes}
 
 zero_small : (n i : ℕ) → IsWord (get_or (replicate n 0) i 0)
 zero_small zero i = omega arith
@@ -83,11 +85,28 @@ module _ (s : PagedStore) (n : Residence) (flags : List Bool) (h f : ℕ) (words
       → tenant_at n.frames.seats n.queue.queued frame ≡ tenant_at s.core.frames.seats s.core.queue.queued frame
   made_tenants idle = tenants_made s.core.frames.seats n.frames.seats s.core.queue.queued n.queue.queued f h (λ g ne. made_reads g) given (made_reads f ∙ ap reads idle)
 
-  pub made_ages : transfer_of f s.core.queue.queued ≡ None → IsRenewed f s.core.frames.seats n.frames.seats
-      → Renews h (tenant_at n.frames.seats n.queue.queued) (age_at s.core.frames.seats s.core.queue.queued) (age_at n.frames.seats n.queue.queued)
+  pub made_ages : transfer_of f s.core.queue.queued ≡ None → IsRenewed f s.core.frames.seats n.frames.seats s.core.frames.uses n.frames.uses
+      → RenewsAgain h (tenant_at n.frames.seats n.queue.queued) (age_at s.core.frames.seats s.core.queue.queued) (age_at n.frames.seats n.queue.queued) s.core.frames.uses n.frames.uses
   made_ages idle renewed =
-      renews_at s.core.frames.seats n.frames.seats s.core.queue.queued n.queue.queued f h (λ g ne. made_reads g) n.resident.single
-      (given_home s.core.frames.seats n.frames.seats s.core.queue.queued n.queue.queued f h (λ g ne. made_reads g) given) (made_reads f ∙ ap reads idle) renewed
+      used_once h (tenant_at n.frames.seats n.queue.queued) (age_at s.core.frames.seats s.core.queue.queued) (age_at n.frames.seats n.queue.queued) s.core.frames.uses n.frames.uses
+      (renews_at s.core.frames.seats n.frames.seats s.core.queue.queued n.queue.queued f h (λ g ne. made_reads g) s.core.frames.uses n.frames.uses n.resident.single
+      (given_home s.core.frames.seats n.frames.seats s.core.queue.queued n.queue.queued f h (λ g ne. made_reads g) given) (made_reads f ∙ ap reads idle) renewed)
 
-  pub made_members : members_of (length n.frames.seats) ≡ members_of (length s.core.frames.seats)
-  made_members = ap members_of (ap (λ (ss : Seats). length ss) given.seats ∙ length-set s.core.frames.seats f (Some given.tenant))
+  pub made_frames : length n.frames.seats ≡ length s.core.frames.seats
+  made_frames = ap (λ (ss : Seats). length ss) given.seats ∙ length-set s.core.frames.seats f (Some given.tenant)
+
+  pub made_found : (k : ℕ) → k ≢ h → found_at n.frames.seats n.queue.queued k ≡ found_at s.core.frames.seats s.core.queue.queued k
+  unfolding found_at
+  made_found k other = ap (found_in n.queue.queued) (given_other s.core n h f (free_away s h unused) given k other) ∙ ap (λ (q : Transfers). found_in q.queued (frame_for s.core.frames.seats k)) queue
+
+-- a making is one use
+pub one_use : (o n : Residence) (f : ℕ) → IsRenewed f o.frames.seats n.frames.seats o.frames.uses n.frames.uses → n.frames.uses ≤ o.frames.uses + 1
+one_use o n f renewed = by (is_some (seat n.frames.seats f)) refl
+  where
+    next_most : (k : ℕ) (b : Bool) → cond b (k + 1) k ≤ k + 1
+    next_most k true = omega arith
+    next_most k false = omega arith
+
+    by : (b : Bool) → is_some (seat n.frames.seats f) ≡ b → n.frames.uses ≤ o.frames.uses + 1
+    by true is = (let next = (renewed.own is).1 in let most = next_most o.frames.uses (nat_lt o.frames.uses LAST_USE) in omega (arith, next, most))
+    by false is = (let same = renewed.none is in omega (arith, same))

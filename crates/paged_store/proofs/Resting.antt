@@ -12,7 +12,7 @@ use Rattle.drum_queue.specs.Transfers.{Transfers, transfer_of, without, writes}
 use Rattle.page_residence.proofs.Queues.{without_own, without_other, pushed_own, pushed_other}
 use Rattle.paged_store.specs.StoreSound.{writes_only}
 use Rattle.paged_store.specs.declared.store.PagedStore.{PagedStore}
-use Rattle.paged_store.specs.Keeping.{members_of}
+use Rattle.page_contracts.specs.Stores.{members_of}
 use Rattle.page_residence.specs.Resident.{Seats, age_at, found_at, framed, meant, places, reads, tenant_at, SeatsStay}
 use Rattle.paged_store.specs.UntoldNeeds.{Needs}
 use Rattle.paged_store.specs.HeldHomes.{held_by}
@@ -39,6 +39,7 @@ rest_found old new rest = fun_ext (λ h. found_alike old.core.frames.seats new.c
 
 pub rest_framed : (old new : PagedStore) → IsAtRest old new → StaysFramed paged_meaning old new
 rest_framed old new rest = record {
+  frames = rest.seats.size;
   spare = rest.seats.spare;
   found = rest_found old new rest;
   tenant = tenants_alike old.core.frames.seats new.core.frames.seats old.core.queue.queued new.core.queue.queued rest.seats.homes rest.reads_stay;
@@ -50,23 +51,26 @@ stays_there old new rest = record {
   homes = rest_homes old new rest;
   framed = rest_framed old new rest;
   ages = ages_alike old.core.frames.seats new.core.frames.seats old.core.queue.queued new.core.queue.queued rest.ages rest.reads_stay;
+  uses = rest.uses;
 }
 
 pub rest_same : (s : PagedStore) → IsAtRest s s
-rest_same s = record { seats = record { size = refl; homes = λ f. refl; spare = refl }; ages = λ f. refl; words = refl; reads_stay = λ f. refl; homes = refl }
+rest_same s = record { seats = record { size = refl; homes = λ f. refl; spare = refl }; ages = λ f. refl; uses = refl; words = refl; reads_stay = λ f. refl; homes = refl }
 
 -- frames, queue and all else are as they were, and so are the pages
-pub stored_same : (s new : PagedStore) → new.core.frames.seats ≡ s.core.frames.seats → new.core.queue ≡ s.core.queue → homes_of new ≡ homes_of s → new.untold ≡ s.untold → new.holders ≡ s.holders → StaysStored paged_meaning s new
-stored_same s new seats queue homes untold holders = record {
+pub stored_same : (s new : PagedStore) → new.core.frames.seats ≡ s.core.frames.seats → new.core.frames.uses ≡ s.core.frames.uses → new.core.queue ≡ s.core.queue → homes_of new ≡ homes_of s → new.untold ≡ s.untold → new.holders ≡ s.holders → StaysStored paged_meaning s new
+stored_same s new seats uses queue homes untold holders = record {
   there = record {
     homes = homes;
     framed = record {
+      frames = ap (λ (ss : Seats). length ss) seats;
       spare = ap (λ (ss : Seats). count_by is_none ss) seats;
       found = ap (λ (ss : Seats). found_at ss new.core.queue.queued) seats ∙ ap (λ (q : Transfers). found_at s.core.frames.seats q.queued) queue;
       tenant = ap (λ (ss : Seats). tenant_at ss new.core.queue.queued) seats ∙ ap (λ (q : Transfers). tenant_at s.core.frames.seats q.queued) queue;
       members = ap (λ (ss : Seats). members_of (length ss)) seats;
     };
     ages = ap (λ (ss : Seats). age_at ss new.core.queue.queued) seats ∙ ap (λ (q : Transfers). age_at s.core.frames.seats q.queued) queue;
+    uses = uses;
   };
   queued = record { queue = ap (λ (q : Transfers). map meant q.queued) queue; untold = ap (λ (u : Needs). u.needs) untold };
   holds = ap (λ (hs : List (List ℕ)). let f : ℕ → List ℕ = λ k. held_by hs k in f) holders;
@@ -88,6 +92,7 @@ pub rest_trans : (a b c : PagedStore) → IsAtRest a b → IsAtRest b c → IsAt
 rest_trans a b c one two = record {
   seats = record { size = two.seats.size ∙ one.seats.size; homes = λ f. two.seats.homes f ∙ one.seats.homes f; spare = two.seats.spare ∙ one.seats.spare };
   ages = λ f. two.ages f ∙ one.ages f;
+  uses = two.uses ∙ one.uses;
   words = two.words ∙ one.words;
   reads_stay = λ f. two.reads_stay f ∙ one.reads_stay f;
   homes = two.homes ∙ one.homes;

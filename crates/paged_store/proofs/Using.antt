@@ -24,7 +24,7 @@ use Rattle.page_residence.proofs.Placing.{places_changed, framed_other, shown_in
 use Rattle.paged_store.specs.StoreMeaning.{paged_meaning, homes_of}
 use Rattle.paged_store.specs.StoreSteps.{IsInPlace, SeatsRest}
 use Rattle.paged_store.specs.StoreSound.{marked, at_frame, paged_sound}
-use Rattle.paged_store.specs.Keeping.{members_of}
+use Rattle.page_contracts.specs.Stores.{members_of}
 use Rattle.std.proofs.Math.Path.{fun_ext}
 use Rattle.paged_store.proofs.Ending.{homes_in}
 use Rattle.page_residence.proofs.Finding.{found_reading_only}
@@ -51,7 +51,7 @@ used_cancels old new f h given queue untold =
     }
 
 -- a use of a frame is one of the page of its home
-pub used_parts : (old new : PagedStore) (f h : ℕ) → home_at old.core.frames.seats f ≡ Some h → reads (transfer_of f old.core.queue.queued) ≡ false → IsRenewed f old.core.frames.seats new.core.frames.seats
+pub used_parts : (old new : PagedStore) (f h : ℕ) → home_at old.core.frames.seats f ≡ Some h → reads (transfer_of f old.core.queue.queued) ≡ false → IsRenewed f old.core.frames.seats new.core.frames.seats old.core.frames.uses new.core.frames.uses
     → SeatsRest old.core.frames.seats new.core.frames.seats
     → ((g : ℕ) → reads (transfer_of g new.core.queue.queued) ≡ reads (transfer_of g old.core.queue.queued))
     → new.core.queue.queued ≡ cond (writes (transfer_of f old.core.queue.queued)) (without f old.core.queue.queued) old.core.queue.queued
@@ -60,6 +60,7 @@ pub used_parts : (old new : PagedStore) (f h : ℕ) → home_at old.core.frames.
 used_parts old new f h given shown renewed seats read queue untold holders =
     record {
       framed = record {
+        frames = seats.size;
         spare = seats.spare;
         found = fun_ext (λ k. found_alike old.core.frames.seats new.core.frames.seats old.core.queue.queued new.core.queue.queued k old.core.resident.single seats.homes read);
         tenant = tenants_alike old.core.frames.seats new.core.frames.seats old.core.queue.queued new.core.queue.queued seats.homes read;
@@ -67,24 +68,24 @@ used_parts old new f h given shown renewed seats read queue untold holders =
       };
       rescued = used_cancels old new f h given queue untold;
       holds = ap (λ (hs : List (List ℕ)). let g : ℕ → List ℕ = λ k. held_by hs k in g) holders;
-      ages = renews_at old.core.frames.seats new.core.frames.seats old.core.queue.queued new.core.queue.queued f h (λ g ne. read g) new.core.resident.single (seats.homes f ∙ given) (read f ∙ shown) renewed;
+      ages = renews_at old.core.frames.seats new.core.frames.seats old.core.queue.queued new.core.queue.queued f h (λ g ne. read g) old.core.frames.uses new.core.frames.uses new.core.resident.single (seats.homes f ∙ given) (read f ∙ shown) renewed;
     }
 
-pub used_is : (old new : PagedStore) (f h : ℕ) → home_at old.core.frames.seats f ≡ Some h → reads (transfer_of f old.core.queue.queued) ≡ false → IsInPlace old new → IsRenewed f old.core.frames.seats new.core.frames.seats
+pub used_is : (old new : PagedStore) (f h : ℕ) → home_at old.core.frames.seats f ≡ Some h → reads (transfer_of f old.core.queue.queued) ≡ false → IsInPlace old new → IsRenewed f old.core.frames.seats new.core.frames.seats old.core.frames.uses new.core.frames.uses
     → new.core.queue.queued ≡ cond (writes (transfer_of f old.core.queue.queued)) (without f old.core.queue.queued) old.core.queue.queued
     → new.untold.needs ≡ cond (writes (transfer_of f old.core.queue.queued)) (noted Frame old.untold.needs) old.untold.needs
     → new.holders ≡ old.holders → IsUsed paged_meaning h old new
 used_is old new f h given shown stays renewed queue untold holders = used_parts old new f h given shown renewed stays.seats stays.reads_stay queue untold holders
 
 -- a use once a word has changed, which moves no page
-pub used_after : (old new : PagedStore) (o : Residence) (f h : ℕ) → home_at old.core.frames.seats f ≡ Some h → reads (transfer_of f old.core.queue.queued) ≡ false → IsRenewed f o.frames.seats new.core.frames.seats
-    → o.frames.seats ≡ old.core.frames.seats → o.queue ≡ old.core.queue → SeatsRest o.frames.seats new.core.frames.seats
+pub used_after : (old new : PagedStore) (o : Residence) (f h : ℕ) → home_at old.core.frames.seats f ≡ Some h → reads (transfer_of f old.core.queue.queued) ≡ false → IsRenewed f o.frames.seats new.core.frames.seats o.frames.uses new.core.frames.uses
+    → o.frames.uses ≡ old.core.frames.uses → o.frames.seats ≡ old.core.frames.seats → o.queue ≡ old.core.queue → SeatsRest o.frames.seats new.core.frames.seats
     → ((g : ℕ) → reads (transfer_of g new.core.queue.queued) ≡ reads (transfer_of g o.queue.queued))
     → new.core.queue.queued ≡ cond (writes (transfer_of f o.queue.queued)) (without f o.queue.queued) o.queue.queued
     → new.untold.needs ≡ cond (writes (transfer_of f o.queue.queued)) (noted Frame old.untold.needs) old.untold.needs
     → new.holders ≡ old.holders → IsUsed paged_meaning h old new
-used_after old new o f h given shown renewed same queue_same seats read queue untold holders =
-    used_parts old new f h given shown (subst (λ (ss : Seats). IsRenewed f ss new.core.frames.seats) same renewed) (subst (λ (ss : Seats). SeatsRest ss new.core.frames.seats) same seats)
+used_after old new o f h given shown renewed uses same queue_same seats read queue untold holders =
+    used_parts old new f h given shown (subst (λ (n : ℕ). IsRenewed f old.core.frames.seats new.core.frames.seats n new.core.frames.uses) uses (subst (λ (ss : Seats). IsRenewed f ss new.core.frames.seats o.frames.uses new.core.frames.uses) same renewed)) (subst (λ (ss : Seats). SeatsRest ss new.core.frames.seats) same seats)
     (λ g. read g ∙ ap (λ (q : Transfers). reads (transfer_of g q.queued)) queue_same)
     (queue ∙ ap (λ (q : Transfers). cond (writes (transfer_of f q.queued)) (without f q.queued) q.queued) queue_same)
     (untold ∙ ap (λ (q : Transfers). cond (writes (transfer_of f q.queued)) (noted Frame old.untold.needs) old.untold.needs) queue_same) holders
@@ -95,8 +96,8 @@ reads_only (Some (Read f h)) e = refl
 reads_only (Some (Write f h)) e = absurd (false≢true e)
 
 -- where no frame has the page of a home nothing is younger than it was
-used_none : (s : PagedStore) (h : ℕ) → ((frame : ℕ) → tenant_at s.core.frames.seats s.core.queue.queued frame ≡ Some h → ⊥) → Renews h (paged_meaning.tenant s) (paged_meaning.age s) (paged_meaning.age s)
-used_none s h none = record { youngest = λ frame other has ne some. absurd (none frame has); others = λ frame apart. refl }
+used_none : (s : PagedStore) (h : ℕ) → ((frame : ℕ) → tenant_at s.core.frames.seats s.core.queue.queued frame ≡ Some h → ⊥) → Renews h (paged_meaning.tenant s) (paged_meaning.age s) (paged_meaning.age s) (paged_meaning.uses s) (paged_meaning.uses s)
+used_none s h none = record { counted = record { own = λ frame has. absurd (none frame has); none = λ away. refl; grows = omega arith }; others = λ frame apart. refl }
 
 -- a page that is in no frame has no departure
 pub used_same : (s : PagedStore) (h : ℕ) → None ≡ found_at s.core.frames.seats s.core.queue.queued h → IsUsed paged_meaning h s s
@@ -106,7 +107,7 @@ used_same s h none = at (frame_for s.core.frames.seats h) refl
     at None is =
         let own = no_departures s.core.frames s.core.queue (agrees s.core.frames s.core.queue s.core.resident) h is in
         record {
-          framed = record { spare = refl; found = refl; tenant = refl; members = refl };
+          framed = record { frames = refl; spare = refl; found = refl; tenant = refl; members = refl };
           rescued = record { queue = sym own.others; untold = sym (ap (λ (ts : List meaning.Transfer). noted_all ts s.untold.needs) own.those) };
           holds = refl;
           ages = used_none s h (λ frame has. none_has s.core.frames.seats h is frame (tenant_given s.core.frames.seats s.core.queue.queued frame h has).0);
@@ -116,7 +117,7 @@ used_same s h none = at (frame_for s.core.frames.seats h) refl
         let idle = reads_only (transfer_of f s.core.queue.queued) read in
         let given = frame_has s.core.frames.seats h f is in
         record {
-          framed = record { spare = refl; found = refl; tenant = refl; members = refl };
+          framed = record { frames = refl; spare = refl; found = refl; tenant = refl; members = refl };
           rescued = used_cancels s s f h given
               (ap (λ (b : Bool). cond b (without f s.core.queue.queued) s.core.queue.queued) (sym idle)) (ap (λ (b : Bool). cond b (noted Frame s.untold.needs) s.untold.needs) (sym idle));
           holds = refl;

@@ -11,6 +11,7 @@ use Rattle.frame_table.specs.declared.tenant.Tenant.{Tenant}
 use Rattle.page_contracts.specs.declared.answers.Need.{Need}
 use Rattle.page_contracts.specs.Stores.{need_of, noted, noted_all, moves, arrives, HomePlace, free, away, here, place, is_here, frames_of, tenant_left, Cancels, IsFreed, KeepsAges, StaysThere}
 use Rattle.page_contracts.specs.Stores as meaning
+use Rattle.page_contracts.specs.declared.answers.Found.{Found}
 use Rattle.drum_queue.specs.declared.transfer.Transfer.{Transfer}
 use Rattle.drum_queue.specs.declared.transfer.Transfer.TheVariants.{Read, Write}
 use Rattle.drum_queue.specs.Transfers.{Transfers, transfer_of, without}
@@ -18,8 +19,9 @@ use Rattle.paged_store.specs.declared.store.PagedStore.{PagedStore}
 use Rattle.page_residence.specs.declared.residence.Residence.{Residence}
 use Rattle.paged_store.specs.UntoldNeeds.{Needs, IsBelow}
 use Rattle.paged_store.specs.HeldHomes.{held_by}
-use Rattle.paged_store.specs.Keeping.{IsKept, is_among, members_of}
-use Rattle.page_residence.specs.Resident.{Seats, age_at, tenant_at, seat, home_at, home_of, frame_for, framed, meant, pins_in, places, reads, IsSingle, IsTakenFrom}
+use Rattle.paged_store.specs.Keeping.{IsKept, is_among}
+use Rattle.page_contracts.specs.Stores.{members_of}
+use Rattle.page_residence.specs.Resident.{found_at, Seats, age_at, tenant_at, seat, home_at, home_of, frame_for, framed, meant, pins_in, places, reads, IsSingle, IsTakenFrom}
 use Rattle.page_residence.proofs.Seating.{frame_none, none_has, home_below, seat_same, seat_other}
 use Rattle.page_residence.proofs.Agreeing.{agrees}
 use Rattle.page_residence.proofs.Queues.{bound_at, without_other, idle_kept}
@@ -28,7 +30,7 @@ use Rattle.paged_store.proofs.KeptThrough.{kept_taken}
 use Rattle.paged_store.specs.StoreSound.{marked}
 use Rattle.paged_store.proofs.Resting.{rescued_idle, rest_homes, stays_there}
 use Rattle.page_residence.proofs.Renewing.{keeps_at, tenants_kept, tenants_left}
-use Rattle.paged_store.proofs.Completing.{departed_places}
+use Rattle.paged_store.proofs.Completing.{departed_places, left_found}
 use Rattle.page_residence.proofs.Steps.{spare_set}
 use Rattle.page_residence.proofs.Meant.{arrivals, moving_of, no_arrivals, not_moving}
 use Rattle.page_residence.proofs.Placing.{place_taken, places_set, gone_in, reading_in, shown_in}
@@ -70,6 +72,8 @@ pub record IsFreedFrom (mid new : PagedStore) (h : ℕ) : Type 0 where
   pub size : length new.core.frames.seats ≡ length mid.core.frames.seats
   pub tenants : (frame : ℕ) → paged_meaning.tenant new frame ≡ tenant_left h (paged_meaning.tenant mid frame)
   pub ages : KeepsAges h (paged_meaning.tenant mid) (paged_meaning.age mid) (paged_meaning.age new)
+  pub uses : new.core.frames.uses ≡ mid.core.frames.uses
+  pub found : (k : ℕ) → k ≢ h → paged_meaning.found new k ≡ paged_meaning.found mid k
 
 pub freed_by : (s mid new : PagedStore) (h : ℕ) → IsAtRest s mid → mid.core.queue ≡ s.core.queue → mid.untold ≡ s.untold → ((k : ℕ) → held_by mid.holders k ≡ all_but h (held_by s.holders k)) → IsFreedFrom mid new h
     → IsFreed paged_meaning h s new
@@ -83,7 +87,10 @@ freed_by s mid new h rest queue untold holders freed = record {
     untold = freed.untold ∙ ap (λ (q : Transfers). noted_all (filter (moves h) (map meant q.queued)) mid.untold.needs) queue ∙ ap (λ (u : Needs). noted_all (filter (moves h) (map meant s.core.queue.queued)) u.needs) untold;
   };
   holds = fun_ext (λ k. ap (λ (hs : List (List ℕ)). held_by hs k) freed.holders ∙ holders k);
+  frames = freed.size ∙ rest.seats.size;
   members = ap members_of (freed.size ∙ rest.seats.size);
+  found = λ k other. freed.found k other ∙ ap (λ (g : ℕ → Option Found). g k) there.framed.found;
+  uses = freed.uses ∙ rest.uses;
   tenants = λ frame. freed.tenants frame ∙ ap (λ (t : ℕ → Option ℕ). tenant_left h (t frame)) there.framed.tenant;
   ages = λ frame apart. freed.ages frame (λ has. apart (sym (ap (λ (t : ℕ → Option ℕ). t frame) there.framed.tenant) ∙ has)) ∙ ap (λ (a : ℕ → ℕ). a frame) there.ages;
 }
@@ -116,6 +123,8 @@ freed_away mid new h gone taken core flags untold holders =
       size = ap (λ (o : Residence). length o.frames.seats) core;
       tenants = λ frame. ap (λ (o : Residence). tenant_at o.frames.seats o.queue.queued frame) core ∙ tenants_kept mid.core.frames.seats mid.core.queue.queued h frame gone;
       ages = λ frame apart. ap (λ (o : Residence). age_at o.frames.seats o.queue.queued frame) core;
+      uses = ap (λ (o : Residence). o.frames.uses) core;
+      found = λ k other. ap (λ (o : Residence). found_at o.frames.seats o.queue.queued k) core;
     }
 
 told_moving : (o : Option Transfer) (needs : List Need) → option_map_or (λ t. noted (need_of (meant t)) needs) o needs ≡ noted_all (cond (is_some o) (option_map_or (λ t. meant t ∷ []) o []) []) needs
@@ -137,10 +146,10 @@ one_place seats words queue h f is = at (reads (transfer_of f queue)) refl
     at false e = ap (λ (p : HomePlace). is_here p || false) (shown_in seats words queue h f is e)
 
 -- a home with a frame
-pub freed_frame : (mid new : PagedStore) (n : Residence) (f h : ℕ) → frame_for mid.core.frames.seats h ≡ Some f → get_or mid.homes h false ≡ true → IsTakenFrom h f mid.core.frames.seats n.frames.seats → n.frames.words ≡ mid.core.frames.words
+pub freed_frame : (mid new : PagedStore) (n : Residence) (f h : ℕ) → frame_for mid.core.frames.seats h ≡ Some f → get_or mid.homes h false ≡ true → IsTakenFrom h f mid.core.frames.seats n.frames.seats → n.frames.uses ≡ mid.core.frames.uses → n.frames.words ≡ mid.core.frames.words
     → n.queue.queued ≡ without f mid.core.queue.queued → new.core ≡ n → new.homes ≡ set mid.homes h false
     → new.untold.needs ≡ option_map_or (λ t. noted (need_of (meant t)) mid.untold.needs) (transfer_of f mid.core.queue.queued) mid.untold.needs → new.holders ≡ mid.holders → IsFreedFrom mid new h
-freed_frame mid new n f h is taken from words queue core flags untold holders =
+freed_frame mid new n f h is taken from uses words queue core flags untold holders =
     let r = agrees mid.core.frames mid.core.queue mid.core.resident in
     let moving = moving_of mid.core.frames mid.core.queue r h f from.had in
     let arrival = arrivals mid.core.frames mid.core.queue r h f from.had in
@@ -172,6 +181,8 @@ freed_frame mid new n f h is taken from words queue core flags untold holders =
           ∙ tenants_left mid.core.frames.seats n.frames.seats mid.core.queue.queued n.queue.queued f h read from mid.core.resident.single frame;
       ages = λ frame apart. ap (λ (o : Residence). age_at o.frames.seats o.queue.queued frame) core
           ∙ keeps_at mid.core.frames.seats n.frames.seats mid.core.queue.queued n.queue.queued f h read from frame apart;
+      uses = ap (λ (o : Residence). o.frames.uses) core ∙ uses;
+      found = λ k other. ap (λ (o : Residence). found_at o.frames.seats o.queue.queued k) core ∙ left_found mid.core.frames.seats n.frames.seats mid.core.queue.queued n.queue.queued f h mid.core.resident.single n.resident.single from read k other;
     }
   where
     read : (g : ℕ) → g ≢ f → reads (transfer_of g n.queue.queued) ≡ reads (transfer_of g mid.core.queue.queued)
@@ -191,6 +202,8 @@ kept_freed seats queue flags holders untold h kept gone = record {
   framed = λ f k has. get_or-set_other flags h k false false (λ e. none_has seats h gone f (has ∙ ap Some e)) ∙ kept.framed f k has;
   held = kept.held;
   once = kept.once;
+  few_held = kept.few_held;
+  none_held = kept.none_held;
   pinned = kept.pinned;
 }
 

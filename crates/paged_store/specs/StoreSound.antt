@@ -1,12 +1,16 @@
 -- What holds of each store on frames and a drum.
-use Rattle.std.proofs.Common.{◌≡◌, ℕ, ◌≤◌, List, map, count_by, Contains, Option, None, Some, is_some, MatchOption, Bool, true, false, refl, sym, ◌∙◌, ap, subst, arith, get_or}
+use Rattle.std.proofs.Common.{◌≡◌, ◌≢◌, ℕ, ◌<◌, ◌≤◌, ◌==◌, inl, inr, List, [], ◌∷◌, length, not, map, count_by, Contains, Option, None, Some, is_some, MatchOption, Bool, true, false, refl, sym, ◌∙◌, ap, subst, arith, get_or}
+use Rattle.std.specs.Prelude.{IsSome}
 use Rattle.std.specs.Option.{option_map, option_map_or}
 use Rattle.std.specs.List.{list_any}
-use Rattle.std.proofs.lemmas.Bool.{false≢true, true≢false, false_from_ne_true}
+use Rattle.std.proofs.lemmas.Bool.{and_parts, false≢true, not-true, true≢false, false_from_ne_true}
+use Rattle.std.proofs.lemmas.Bool.Decides.{eqb_tells}
+use Rattle.std.proofs.lemmas.List.{get_or_past}
+use Rattle.page_contracts.proofs.Sums.{count_cons, none_count, one_if}
 use Rattle.outside.specs.Drums.{IsPage}
 use Rattle.page_homes.specs.declared.homes.TheConstants.{MOST_HOMES}
 use Rattle.page_contracts.specs.declared.answers.Found.{Found}
-use Rattle.page_contracts.specs.Stores.{IsSound, IsNext, CanLeave, AllStay, HomePlace, away, here, place, is_here, arrives, departs, moves}
+use Rattle.page_contracts.specs.Stores.{LAST_USE, HasFrame, IsSound, IsNext, CanLeave, AllStay, HomePlace, away, here, place, is_here, arrives, departs, moves}
 use Rattle.frame_table.specs.declared.tenant.Tenant.{Tenant}
 use Rattle.frame_table.specs.Core.{can_go}
 use Rattle.drum_queue.specs.declared.transfer.Transfer.{Transfer}
@@ -14,15 +18,16 @@ use Rattle.drum_queue.specs.Transfers.{transfer_of, writes}
 use Rattle.paged_store.specs.declared.store.PagedStore.{PagedStore}
 use Rattle.paged_store.specs.HeldHomes.{held_by}
 use Rattle.page_residence.specs.Victims.{MayLeave, victim_of}
-use Rattle.paged_store.specs.Keeping.{is_among}
+use Rattle.paged_store.specs.Keeping.{is_among, is_distinct}
 use Rattle.page_residence.specs.Resident.{Seats, seat, home_at, frame_for, framed, found_at, page_in, pins_in, is_moving, age_in, reads}
-use Rattle.page_residence.proofs.Seating.{frame_has}
+use Rattle.page_residence.proofs.Seating.{frame_has, frame_is, home_below}
+use Rattle.page_residence.proofs.Shared.{frames_shared}
 use Rattle.page_residence.proofs.Agreeing.{Agrees, agrees}
 use Rattle.paged_store.specs.KeptHomes.{contains_among, among_contains, still_frame, none_counted, uncounted}
 use Rattle.page_residence.proofs.Leaving.{victim_goes, victim_least, victim_first, none_goes, leaves_at}
 use Rattle.page_residence.proofs.Meant.{arrivals, departures, moving_of, no_arrivals, no_departures, not_moving, goes_parts, parts_go}
 use Rattle.page_residence.proofs.Placing.{places_length, place_at, place_taken, here_at, shown_in, reading_in, finds, found_frame, IsHereIn}
-use Rattle.page_residence.proofs.Aging.{tenant_shown, tenant_given, age_shown}
+use Rattle.page_residence.proofs.Aging.{tenant_shown, tenant_given, tenant_some, age_shown}
 use Rattle.paged_store.specs.StoreMeaning.{paged_meaning}
 
 pub none_is : (o : Option Transfer) → is_some o ≡ false → o ≡ None
@@ -33,6 +38,22 @@ pub writes_only : (o : Option Transfer) → writes o ≡ true → reads o ≡ fa
 writes_only None e = refl
 writes_only (Some (Rattle.drum_queue.specs.declared.transfer.Transfer.TheVariants.Read f h)) e = absurd (false≢true e)
 writes_only (Some (Rattle.drum_queue.specs.declared.transfer.Transfer.TheVariants.Write f h)) e = refl
+
+-- what is there once is counted once
+not_among : (h : ℕ) (hs : List ℕ) → is_among h hs ≡ false → count_by (λ x. x == h) hs ≡ 0
+not_among h hs none = none_count (λ x. x == h) hs none
+
+once_counted : (h : ℕ) (hs : List ℕ) → is_distinct hs ≡ true → count_by (λ x. x == h) hs ≤ 1
+once_counted h [] distinct = omega arith
+once_counted h (x ∷ xs) distinct = by (x == h) refl (once_counted h xs (and_parts (not (is_among x xs)) (is_distinct xs) distinct).1)
+  where
+    by : (b : Bool) → (x == h) ≡ b → count_by (λ y. y == h) xs ≤ 1 → count_by (λ y. y == h) (x ∷ xs) ≤ 1
+    by true is rest =
+        let same : x ≡ h = elim (eqb_tells x h) [ inl t ↦ t.1 | inr t ↦ absurd (false≢true (sym t.0 ∙ is)) ] in
+        let none = not_among h xs (ap (λ (n : ℕ). is_among n xs) (sym same) ∙ not-true (is_among x xs) (and_parts (not (is_among x xs)) (is_distinct xs) distinct).0) in
+        let own : one_if (x == h) ≡ 1 = ap one_if is in
+        omega (arith, none, own, count_cons (λ (y : ℕ). y == h) x xs)
+    by false is rest = (let own : one_if (x == h) ≡ 0 = ap one_if is in omega (arith, rest, own, count_cons (λ (y : ℕ). y == h) x xs))
 
 module _ (s : PagedStore) where
   seats : Seats
@@ -177,6 +198,26 @@ module _ (s : PagedStore) where
       let still = still_frame s.core.frames.seats s.core.queue.queued h (s.kept.held k h (contains_among (held_by s.holders k) h there)) in
       (moving_of s.core.frames s.core.queue r h still.frame still.given).any ∙ ap is_some still.idle
 
+  -- what is in a frame is the tenant of one
+  seated_is : (h : ℕ) → is_here (place (paged_meaning.homes s) h) ≡ true → HasFrame paged_meaning s h
+  seated_is h is =
+      let there = here_at s.homes s.core.frames.seats s.core.frames.words s.core.queue.queued h is in
+      record { frame = there.1.frame; is = tenant_shown s.core.frames.seats s.core.queue.queued there.1.frame there.1.read ∙ there.1.given }
+
+  given_is : (f h : ℕ) → paged_meaning.tenant s f ≡ Some h → (f < length s.core.frames.seats) × (is_here (place (paged_meaning.homes s) h) ≡ true)
+  given_is f h has =
+      let own = tenant_given s.core.frames.seats s.core.queue.queued f h has in (
+        home_below s.core.frames.seats f h own.0,
+        ap is_here (at_frame h f own.0 ∙ shown_in s.core.frames.seats s.core.frames.words s.core.queue.queued h f (frame_is s.core.frames.seats h f s.core.resident.single own.0) own.1),
+      )
+
+  aged_is : (f : ℕ) → IsSome (paged_meaning.tenant s f) → (paged_meaning.age s f ≤ s.core.frames.uses) × (s.core.frames.uses < LAST_USE → paged_meaning.age s f < s.core.frames.uses)
+  aged_is f some =
+      let own = tenant_some s.core.frames.seats s.core.queue.queued f some in
+      let each = s.core.aged.each f own.0 in
+      let age = age_shown s.core.frames.seats s.core.queue.queued f own.1 in
+      (omega (arith, age, each.0), λ before. (let less = each.1 before in omega (arith, age, less)))
+
   pub paged_sound : IsSound paged_meaning s
   paged_sound = record {
     few = subst (λ (n : ℕ). n ≤ MOST_HOMES) (sym (places_length s.homes (framed s.core.frames.seats s.core.frames.words s.core.queue.queued))) s.kept.few;
@@ -188,6 +229,16 @@ module _ (s : PagedStore) where
     once = few_of;
     held = held_here;
     unmoved = held_still;
+    shared = frames_shared s.core.frames s.core.queue r s.homes marked;
+    seated = λ flat home is. seated_is home is;
+    given = given_is;
+    single = λ f g h has it. s.core.resident.single f g h (tenant_given s.core.frames.seats s.core.queue.queued f h has).0 (tenant_given s.core.frames.seats s.core.queue.queued g h it).0;
+    members = λ flat. refl;
+    few_held = s.kept.few_held;
+    none_held = λ k past apart. elim past [ inl more ↦ s.kept.none_held k more apart | inr far ↦ get_or_past s.holders k [] (let room = s.kept.room in omega (arith, room, far)) ];
+    held_once = λ k h. once_counted h (held_by s.holders k) (s.kept.once k);
+    numbered = s.core.aged.numbered;
+    aged = aged_is;
     next = next (victim_of s.core.frames.seats) refl;
     core = λ flat. absurd (false≢true flat);
     still = λ flat. absurd (false≢true flat);

@@ -24,6 +24,7 @@ pub record IsInPlace (old new : PagedStore) : Type 0 where
 pub record IsAtRest (old new : PagedStore) : Type 0 where
   pub seats : SeatsRest old.core.frames.seats new.core.frames.seats
   pub ages : AgesStay old.core.frames.seats new.core.frames.seats
+  pub uses : new.core.frames.uses ≡ old.core.frames.uses
   pub words : new.core.frames.words ≡ old.core.frames.words
   pub reads_stay : (f : ℕ) → reads (transfer_of f new.core.queue.queued) ≡ reads (transfer_of f old.core.queue.queued)
   pub homes : new.homes ≡ old.homes

@@ -7,7 +7,8 @@ ghost use Rattle.drum_queue.specs.Transfers.{transfer_of, without, writes};
 ghost use Rattle.drum_queue.specs.declared.transfer.Transfer.{Transfer};
 ghost use Rattle.paged_store.specs.HeldHomes.{held_by};
 ghost use Rattle.page_residence.specs.Victims.{MayLeave, victim_of};
-ghost use Rattle.paged_store.specs.Keeping.{IsKept, is_among, members_of};
+ghost use Rattle.paged_store.specs.Keeping.{IsKept, is_among};
+ghost use Rattle.page_contracts.specs.Stores.{members_of};
 ghost use Rattle.page_residence.specs.Resident.{home_at, meant};
 
 use crate::holders::Holders;
@@ -73,7 +74,7 @@ impl PagedStore {
     fn use_frame(&mut self, f: FrameId)
         requires { f.0 < length self.old.core.frames.seats }
         ensures stays { IsInPlace self.old self.new }
-        ensures renews { IsRenewed f.0 self.old.core.frames.seats self.new.core.frames.seats }
+        ensures renews { IsRenewed f.0 self.old.core.frames.seats self.new.core.frames.seats self.old.core.frames.uses self.new.core.frames.uses }
         ensures queue { self.new.core.queue.queued ≡ (if writes (transfer_of f.0 self.old.core.queue.queued) then without f.0 self.old.core.queue.queued else self.old.core.queue.queued) }
         ensures untold { self.new.untold.needs ≡ (if writes (transfer_of f.0 self.old.core.queue.queued) then noted Need.Frame self.old.untold.needs else self.old.untold.needs) }
         ensures holders { self.new.holders ≡ self.old.holders }
@@ -195,6 +196,7 @@ impl PagedStore {
         requires given { home_at self.old.core.frames.seats f.0 ≡ Some home.0 }
         requires unheld { (k : ℕ) → is_among home.0 (held_by self.old.holders k) ≡ false }
         ensures taken { IsTakenFrom home.0 f.0 self.old.core.frames.seats self.new.core.frames.seats }
+        ensures uses { self.new.core.frames.uses ≡ self.old.core.frames.uses }
         ensures words { self.new.core.frames.words ≡ self.old.core.frames.words }
         ensures queue { self.new.core.queue.queued ≡ without f.0 self.old.core.queue.queued }
         ensures untold { self.new.untold.needs ≡ option_map_or (λ t. noted (need_of (meant t)) self.old.untold.needs) (transfer_of f.0 self.old.core.queue.queued) self.old.untold.needs }

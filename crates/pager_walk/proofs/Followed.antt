@@ -14,6 +14,8 @@ use Rattle.plain_pages.specs.declared.map.MapEntry.TheVariants as entry
 use Rattle.plain_pages.specs.Maps.{full_access}
 use Rattle.plain_pages.specs.NewMaps.{following_map}
 use Rattle.share_table.specs.declared.pointer.Pointer.TheVariants.{Indirect}
+use Rattle.page_contracts.proofs.Losing.{counts_on, used_once}
+use Rattle.page_contracts.specs.declared.answers.Found.{Found}
 use Rattle.page_contracts.specs.Stores.{StoreMeaning, HomePlace, is_here, Transfer, departs, without, noted_all, IsSound, IsMade, IsUsed}
 use Rattle.pager_walk.specs.declared.paged_entry.PagedEntry.{PagedEntry}
 use Rattle.pager_walk.specs.declared.paged_entry.PagedEntry.TheVariants.{Follows}
@@ -99,6 +101,7 @@ module _ {S : Type 0} (means : StoreMeaning S) (home : ℕ) (old mid new : S) (p
     below = m.below;
     was_free = m.was_free;
     homes = homes ∙ ap (λ ps. slice_set ps home q) m.homes ∙ set_twice (means.homes old) home p q;
+    frames = u.framed.frames ∙ m.frames;
     spare = ap (λ n. n + 1) u.framed.spare ∙ m.spare;
     queued = record {
       queue = u.rescued.queue ∙ ap (without (departs home)) m.queued.queue ∙ (kept_all (departs home) (means.queue old) none_departs).0;
@@ -107,9 +110,11 @@ module _ {S : Type 0} (means : StoreMeaning S) (home : ℕ) (old mid new : S) (p
     };
     holds = u.holds ∙ m.holds;
     members = u.framed.members ∙ m.members;
+    found = λ k ne. ap (λ (g : ℕ → Option Found). g k) u.framed.found ∙ m.found k ne;
     tenants = λ frame ne. ap (λ (g : ℕ → Option ℕ). g frame) u.framed.tenant ∙ m.tenants frame (λ e. ne (ap (λ (g : ℕ → Option ℕ). g frame) u.framed.tenant ∙ e));
     ages = record {
-      youngest = u.ages.youngest;
+      counted = counts_on home (means.tenant mid) (means.tenant new) (means.age mid) (means.age new) (means.uses old) (means.uses mid) (means.uses new)
+          m.ages.counted (used_once home (means.tenant new) (means.age mid) (means.age new) (means.uses mid) (means.uses new) u.ages).counted;
       others = λ frame ne. u.ages.others frame ne ∙ m.ages.others frame (λ e. ne (ap (λ (g : ℕ → Option ℕ). g frame) u.framed.tenant ∙ e));
     };
   }

@@ -24,6 +24,7 @@ module _ {P S : Type 0} (store : StoreMeaning S) (part : P → S) (beside : P �
     lives = λ i. lives_in (tables i);
     forks = λ i. forks_in (tables i);
     serials = λ i. serial_of (tables i).serials;
+    count = λ i. (tables i).taken + (tables i).living;
     most = λ i. (tables i).limit;
   }
 
@@ -34,7 +35,6 @@ module _ {P S : Type 0} (store : StoreMeaning S) (part : P → S) (beside : P �
   stays_same = record {
     plain = λ d fits. (subst (λ (x : Beside × List HomePlace). FitsPages x.0 x.1 d) (sym both) fits, λ i. plain_over (tables i) (homes i) d);
     put = stays_put;
-    count = λ i. (tables i).taken + (tables i).living;
   }
 
   -- a use of a page changes nothing of them
@@ -43,6 +43,5 @@ module _ {P S : Type 0} (store : StoreMeaning S) (part : P → S) (beside : P �
     fits = λ d. (λ fits. subst (λ (x : Beside × List HomePlace). FitsPages x.0 x.1 d) (sym both) fits, λ fits. subst (λ (x : Beside × List HomePlace). FitsPages x.0 x.1 d) both fits);
     plain = λ i d. plain_over (tables i) (homes i) d;
     put = stays_put;
-    count = λ i. (tables i).taken + (tables i).living;
     loses = loses;
   }

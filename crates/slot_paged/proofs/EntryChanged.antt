@@ -67,6 +67,7 @@ module _ {S : Type 0} (store : StoreMeaning S) (old new : S) (b b' : Beside) (ke
     lives = ap (λ ms. λ f. is_some (index_of ms f)) sets.maps;
     forks = ap (λ ms. λ t. count_by (λ (m : MapPage). option_map_or (λ f. nat_eq f.tty.0 t.0) m.fork false) ms) sets.maps;
     serials = sets.serials;
+    maps = sets.maps;
     most = sets.limit;
   }
 

@@ -1,5 +1,5 @@
 -- A page that was made for a file, whatever the drum.
-use Rattle.std.proofs.Common.{◌≡◌, ◌≢◌, ℕ, ◌+◌, ◌<◌, ◌≤◌, List, true, Option, None, Some, is_some, length, refl, sym, ◌∙◌, ap, subst, arith}
+use Rattle.std.proofs.Common.{◌≡◌, ◌≢◌, ℕ, ◌+◌, ◌<◌, ◌≤◌, List, true, false, Option, None, Some, is_some, length, refl, sym, ◌∙◌, ap, subst, arith}
 use Rattle.std.specs.FinMap as fin
 use Rattle.std.specs.Option.{option_map}
 use Rattle.std.proofs.lemmas.List.{get_or-set_same, get_or-set_other}
@@ -54,6 +54,13 @@ module _ {S : Type 0} (store : StoreMeaning S) (old new : S) (b b' : Beside) (ke
 
   pub filed_pages : (k : ℕ) → is_taken (place places k) ≡ true → place (store.homes new) k ≡ place places k
   filed_pages k taken = ap (λ ps. place ps k) z.made.homes ∙ made_other places z.home.0 zero_words k z.made.was_free taken
+
+  -- what was free is free, but the home that was taken
+  pub filed_fresh : (k : ℕ) → k ≢ z.home.0 → is_taken (place places k) ≡ false → place (store.homes new) k ≡ place places k
+  filed_fresh k ne unused = ap (λ ps. place ps k) z.made.homes ∙ get_or-set_other places z.home.0 k (here zero_words) free ne
+
+  pub filed_maps : b'.tables.maps ≡ b.tables.maps
+  filed_maps = ap (λ (x : Beside). x.tables.maps) z.beside
 
   pub filed_names : (k : ℕ) → k ≢ z.home.0 → name_at b'.tables.names k ≡ name_at b.tables.names k
   filed_names k ne = ap (λ (x : Beside). name_at x.tables.names k) z.beside ∙ get_or-set_other b.tables.names z.home.0 k (Some title) None ne

@@ -9,7 +9,7 @@ use Rattle.machine_names.specs.declared.names.ForkName.{ForkName}
 use Rattle.machine_names.specs.declared.names.Tty.{Tty}
 use Rattle.machine_names.specs.Orders.{same_fork}
 use Rattle.page_contracts.specs.Pages.{StaysInCore}
-use Rattle.page_contracts.specs.Stores.{HomePlace, IsFreed, Loses, RenewsNone, StoreMeaning, away_at, away_home, free, is_taken, place, tenant_left, traffic}
+use Rattle.page_contracts.specs.Stores.{HomePlace, IsFreed, KeepsFrame, Loses, RenewsNone, StoreMeaning, away_at, away_home, free, is_taken, place, tenant_left, traffic}
 use Rattle.page_contracts.proofs.Losing.{freed_none, loses_freed, loses_on}
 use Rattle.pager_walk.specs.MapPages.{AreNumbered, fork_at, index_of, root_at}
 use Rattle.pager_walk.specs.PagedMaps.{AreRooted, map_away}
@@ -108,9 +108,9 @@ module _ {S : Type 0} (store : StoreMeaning S) (old mid new : S) (b b1 : Beside)
   left_none : tenant_left home (Some home) ≡ None
   left_none = elim (eqb_tells home home) [ inl t ↦ ap (λ c. cond c None (Some home)) t.0 | inr t ↦ absurd (t.1 refl) ]
 
-  pub left_uses : RenewsNone (traffic store old) (traffic store new)
-  left_uses frame there =
-      let second = freed_none store mid new home freed frame there in
+  left_kept : (frame : ℕ) → IsSome (store.tenant new frame) → KeepsFrame (traffic store old) (traffic store new) frame
+  left_kept frame there =
+      let second = (freed_none store mid new home freed).kept frame there in
       let apart : (at : ℕ) → map_home_over b1 fork ≡ Some at → store.tenant mid frame ≡ Some at → ⊥ = λ at is tenant.
       (let own : store.tenant mid frame ≡ Some home = tenant ∙ sym is ∙ ap (option_map (λ j. (root_at b1.tables.maps j).0)) numbered in
       not_there (store.tenant new frame) there (freed.tenants frame ∙ ap (tenant_left home) own ∙ left_none)) in
@@ -122,3 +122,6 @@ module _ {S : Type 0} (store : StoreMeaning S) (old mid new : S) (b b1 : Beside)
       not_there : (o : Option ℕ) → IsSome o → o ≡ None → ⊥
       not_there None h e = absurd (cc h)
       not_there (Some x) h e = absurd (cc e)
+
+  pub left_uses : RenewsNone (traffic store old) (traffic store new)
+  left_uses = record { kept = left_kept; grows = (let first = empties.lost.ages.grows in let last = freed.uses in omega (arith, first, last)) }

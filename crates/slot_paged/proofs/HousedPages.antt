@@ -11,7 +11,7 @@ use Rattle.machine_names.specs.declared.names.TheConstants.{FILE_PAGES, MOST_FIL
 use Rattle.machine_names.specs.Orders.{FilePage}
 use Rattle.page_homes.specs.declared.homes.Home.{Home}
 use Rattle.page_contracts.specs.DrumWords.{DrumWords}
-use Rattle.page_contracts.specs.Pages.{Agrees, AreHoused, Housed, a_map, a_page, home_for}
+use Rattle.page_contracts.specs.Pages.{Agrees, AreHoused, AreThere, Housed, a_map, a_page, home_for}
 use Rattle.page_contracts.specs.Stores.{HomePlace, IsSound, StoreMeaning, away, away_at, away_home, away_of, free, here, is_taken, place}
 use Rattle.page_contracts.proofs.HomeCounts.{taken_or_free}
 use Rattle.plain_pages.specs.WholePages.{AreWhole}
@@ -30,7 +30,8 @@ use Rattle.slot_paged.specs.PagedMeaning.{forks_in, lives_in}
 use Rattle.slot_paged.specs.PagedSlots.{filed_over, map_home_over, paged_slots}
 use Rattle.slot_paged.specs.PagedTables.{Beside, AreKept, FitsPages, in_memory_over, plain_over}
 use Rattle.slot_paged.proofs.Homed.{flat_pages, sized}
-use Rattle.slot_paged.proofs.Places.{fits_places}
+use Rattle.slot_paged.proofs.Places.{content_same, fits_places}
+use Rattle.slot_paged.proofs.Touched.{named_apart}
 use Rattle.slot_paged.proofs.WalksTold.{index_same}
 
 -- what is away is at a home that is
@@ -198,3 +199,9 @@ module _ {P S : Type 0} (store : StoreMeaning S) (part : P → S) (beside : P �
     -- and are whole
     pub paged_whole : AreWhole (plain_over (beside p) (store.homes (part p)) d)
     paged_whole = tables_whole (in_memory_over b places d) fits.agree d (sized b places kept sound.pages d fits)
+
+    -- each page has the words that are at its home
+    pub paged_there : AreThere (paged_slots store part beside) p d
+    paged_there n home is =
+        memory_told.words d n home is
+        ∙ content_same b.tables.maps places d home (named_apart b places kept.rooted home (ap is_some (named_home b.tables.names n home is)))

@@ -1,5 +1,5 @@
 -- A page that was made for an entry at the end of a chain, or with its first copy mark, whatever the drum.
-use Rattle.std.proofs.Common.{◌≡◌, ◌≢◌, ℕ, ◌+◌, ◌<◌, ◌≤◌, List, true, cond, Option, None, Some, is_some, length, refl, sym, ◌∙◌, ap, subst, arith}
+use Rattle.std.proofs.Common.{◌≡◌, ◌≢◌, ℕ, ◌+◌, ◌<◌, ◌≤◌, List, true, false, cond, Option, None, Some, is_some, length, refl, sym, ◌∙◌, ap, subst, arith}
 use Rattle.std.specs.Prelude.{slice_set}
 use Rattle.std.specs.FinMap as fin
 use Rattle.std.proofs.lemmas.List.{get_or-set_same, get_or-set_other}
@@ -126,6 +126,16 @@ module _ {S : Type 0} (store : StoreMeaning S) (old new : S) (b b' : Beside) (ke
         ∙ ap (λ p. with_word_in p at.page word) (roots z.number at.fork own_fork);
     homes = λ k ne taken. ap (λ ps. place ps k) homes_are ∙ get_or-set_other mid root k (with_word_in (place mid root) at.page word) free ne ∙ made_other places z.home.0 words k z.made.was_free taken;
   }
+
+  -- what was free is free, but the home that was taken
+  pub made_fresh : (k : ℕ) → k ≢ z.home.0 → is_taken (place places k) ≡ false → place (store.homes new) k ≡ place places k
+  made_fresh k ne unused =
+      ap (λ ps. place ps k) homes_are
+      ∙ get_or-set_other mid root k (with_word_in (place mid root) at.page word) free (λ same. (let no : true ≡ false = sym (root_taken b.tables places kept.rooted at.fork z.number z.numbered) ∙ ap (λ j. is_taken (place places j)) (sym same) ∙ unused in cc no))
+      ∙ get_or-set_other places z.home.0 k (here words) free ne
+
+  pub made_maps : b'.tables.maps ≡ b.tables.maps
+  made_maps = ap (λ (x : Beside). x.tables.maps) z.beside
 
   pub made_names : (k : ℕ) → k ≢ z.home.0 → name_at b'.tables.names k ≡ name_at b.tables.names k
   made_names k ne = ap (λ (x : Tables). name_at x.names k) tables_are ∙ get_or-set_other b.tables.names z.home.0 k (Some title) None ne

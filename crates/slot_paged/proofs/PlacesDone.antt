@@ -42,13 +42,13 @@ use Rattle.slot_paged.specs.PlacesSettled.{FilesSettled, SettlesPlace}
 use Rattle.slot_paged.proofs.AloneTold.{alone_settled_told}
 use Rattle.slot_paged.proofs.CopiesTold.{copy_told}
 use Rattle.slot_paged.proofs.FileTold.{filed_told}
-use Rattle.slot_paged.proofs.FiledDone.{filed_ages, filed_at, filed_count, filed_forks, filed_here, filed_lives, filed_loses, filed_most, filed_names, filed_near, filed_one, filed_pages, filed_scene, filed_serial, filed_serials, filed_taken}
+use Rattle.slot_paged.proofs.FiledDone.{filed_ages, filed_at, filed_count, filed_forks, filed_here, filed_lives, filed_loses, filed_most, filed_fresh, filed_maps, filed_names, filed_near, filed_one, filed_pages, filed_scene, filed_serial, filed_serials, filed_taken}
 use Rattle.slot_paged.proofs.Homed.{flat_pages}
-use Rattle.slot_paged.proofs.MadeDone.{made_ages, made_count, made_files, made_forks, made_here, made_lives, made_loses, made_most, made_names, made_near, made_pages, made_room, made_scene, made_serial, made_serials, made_sets, made_taken}
+use Rattle.slot_paged.proofs.MadeDone.{made_ages, made_count, made_files, made_forks, made_here, made_lives, made_loses, made_most, made_fresh, made_maps, made_names, made_near, made_pages, made_room, made_scene, made_serial, made_serials, made_sets, made_taken}
 use Rattle.slot_paged.proofs.MapsSet.{copy_map, file_map, zero_map}
 use Rattle.slot_paged.proofs.MemoryWays.{copy_none, memory_announced, memory_way}
 use Rattle.slot_paged.proofs.Places.{fits_places}
-use Rattle.slot_paged.proofs.RenamedDone.{renamed_ages, renamed_count, renamed_files, renamed_forks, renamed_here, renamed_lives, renamed_loses, renamed_most, renamed_names, renamed_near, renamed_pages, renamed_scene, renamed_serial, renamed_serials, renamed_sets, renamed_taken}
+use Rattle.slot_paged.proofs.RenamedDone.{renamed_ages, renamed_count, renamed_files, renamed_forks, renamed_here, renamed_lives, renamed_loses, renamed_most, renamed_fresh, renamed_maps, renamed_names, renamed_near, renamed_pages, renamed_scene, renamed_serial, renamed_serials, renamed_sets, renamed_taken}
 use Rattle.slot_paged.proofs.SettledTouches.{IsCopy, IsZero, copied_ready, is_copy, is_zero, only_write, permitted, zero_then}
 use Rattle.slot_paged.proofs.WalksSet.{Copied, marked, walk_copied, walk_filled}
 use Rattle.slot_paged.proofs.ZeroPages.{zero_told}
@@ -109,6 +109,8 @@ module _ {S : Type 0} (store : StoreMeaning S) (old new : S) (b b' : Beside) (ke
         taken = made_taken store old new b b' kept kept' pages owner own w.end stands.end zero_words full_access b.tables.shares z;
         pages = inr (made_pages store old new b b' kept kept' pages owner own w.end stands.end zero_words full_access b.tables.shares z);
         names = λ f at k ne. (let own_home : z.home ≡ f = (let y : At z.home ≡ At f = sym (ap homed_along filled) ∙ at in cc y) in made_names store old new b b' kept kept' pages owner own w.end stands.end zero_words full_access b.tables.shares z k (λ same. ne (same ∙ ap (λ (x : Home). x.0) own_home)));
+        fresh = λ f at k ne unused. (let own_home : z.home ≡ f = (let y : At z.home ≡ At f = sym (ap homed_along filled) ∙ at in cc y) in made_fresh store old new b b' kept kept' pages owner own w.end stands.end zero_words full_access b.tables.shares z k (λ same. ne (same ∙ ap (λ (x : Home). x.0) own_home)) unused);
+        maps = made_maps store old new b b' kept kept' pages owner own w.end stands.end zero_words full_access b.tables.shares z;
       }
 
   -- the page is there, and stays
@@ -163,6 +165,8 @@ module _ {S : Type 0} (store : StoreMeaning S) (old new : S) (b b' : Beside) (ke
           taken = made_taken store old new b b' kept kept' pages owner own m near_slot words access shares z;
           pages = inr (made_pages store old new b b' kept kept' pages owner own m near_slot words access shares z);
           names = λ f at k ne. (let own_home : z.home ≡ f = (let y : At z.home ≡ At f = sym (ap homed_along c.is ∙ ap homed c.home) ∙ at in cc y) in made_names store old new b b' kept kept' pages owner own m near_slot words access shares z k (λ same. ne (same ∙ ap (λ (x : Home). x.0) own_home)));
+          fresh = λ f at k ne unused. (let own_home : z.home ≡ f = (let y : At z.home ≡ At f = sym (ap homed_along c.is ∙ ap homed c.home) ∙ at in cc y) in made_fresh store old new b b' kept kept' pages owner own m near_slot words access shares z k (λ same. ne (same ∙ ap (λ (x : Home). x.0) own_home)) unused);
+          maps = made_maps store old new b b' kept kept' pages owner own m near_slot words access shares z;
         }
 
     -- in its place
@@ -200,6 +204,8 @@ module _ {S : Type 0} (store : StoreMeaning S) (old new : S) (b b' : Beside) (ke
           taken = renamed_taken store old new b b' kept kept' pages owner own m near_slot h one words old_words access z;
           pages = inr (renamed_pages store old new b b' kept kept' pages owner own m near_slot h one words old_words access z);
           names = λ f at k ne. (let own_home : h ≡ f = (let y : At h ≡ At f = sym (ap homed_along c.is ∙ ap homed c.home) ∙ at in cc y) in renamed_names store old new b b' kept kept' pages owner own m near_slot h one words old_words access z k (λ same. ne (same ∙ ap (λ (x : Home). x.0) own_home)));
+          fresh = λ f at k ne unused. (let own_home : h ≡ f = (let y : At h ≡ At f = sym (ap homed_along c.is ∙ ap homed c.home) ∙ at in cc y) in renamed_fresh store old new b b' kept kept' pages owner own m near_slot h one words old_words access z k (λ same. ne (same ∙ ap (λ (x : Home). x.0) own_home)) unused);
+          maps = renamed_maps store old new b b' kept kept' pages owner own m near_slot h one words old_words access z;
         }
 
 -- the page is there, and was used
@@ -240,6 +246,8 @@ module _ {S : Type 0} (store : StoreMeaning S) (old new : S) (b : Beside) (kept 
     taken = λ k t. ap (λ ps. is_taken (place ps k)) homes ∙ t;
     pages = inl (λ k t. ap (λ ps. place ps k) homes);
     names = λ f at k ne. refl;
+    fresh = λ f at k ne unused. ap (λ ps. place ps k) homes;
+    maps = refl;
   }
 
 -- a page of a file was made
@@ -276,4 +284,6 @@ module _ {S : Type 0} (store : StoreMeaning S) (old new : S) (b b' : Beside) (ke
     taken = filed_taken store old new b b' kept kept' owner own (file_page file.0 page) z;
     pages = inl (filed_pages store old new b b' kept kept' owner own (file_page file.0 page) z);
     names = λ f at k ne. (let own_home : z.home ≡ f = (let y : At z.home ≡ At f = sym (ap homed (filed_at store old new b b' kept kept' owner own (file_page file.0 page) z)) ∙ at in cc y) in filed_names store old new b b' kept kept' owner own (file_page file.0 page) z k (λ same. ne (same ∙ ap (λ (x : Home). x.0) own_home)));
+    fresh = λ f at k ne unused. (let own_home : z.home ≡ f = (let y : At z.home ≡ At f = sym (ap homed (filed_at store old new b b' kept kept' owner own (file_page file.0 page) z)) ∙ at in cc y) in filed_fresh store old new b b' kept kept' owner own (file_page file.0 page) z k (λ same. ne (same ∙ ap (λ (x : Home). x.0) own_home)) unused);
+    maps = filed_maps store old new b b' kept kept' owner own (file_page file.0 page) z;
   }

@@ -1,5 +1,5 @@
 -- A word that is put into a page leaves what a touch finds, and all that is told beside the words.
-use Rattle.std.proofs.Common.{◌≡◌, ℕ, List, ◌∙◌}
+use Rattle.std.proofs.Common.{◌≡◌, ◌+◌, ℕ, List, ◌∙◌}
 use Rattle.std.specs.Prelude.{slice_set}
 use Rattle.page_contracts.specs.Stores.{HomePlace, StoreMeaning, here, place, with_word_in}
 use Rattle.page_contracts.specs.Pages.{StaysPut}
@@ -37,5 +37,6 @@ module _ {P S : Type 0} (store : StoreMeaning S) (part : P → S) (beside : P �
         lives = λ i. lives_in (tables i);
         forks = λ i. forks_in (tables i);
         serials = λ i. serial_of (tables i).serials;
+        count = λ i. (tables i).taken + (tables i).living;
         most = λ i. (tables i).limit;
       }

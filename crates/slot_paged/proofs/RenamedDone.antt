@@ -118,6 +118,15 @@ module _ {S : Type 0} (store : StoreMeaning S) (old new : S) (b b' : Beside) (ke
     homes = λ k ne taken. ap (λ ps. place ps k) z.homes ∙ get_or-set_other places root k (with_word_in (place places root) at.page word) free ne;
   }
 
+  -- what was free is free
+  pub renamed_fresh : (k : ℕ) → k ≢ h.0 → is_taken (place places k) ≡ false → place (store.homes new) k ≡ place places k
+  renamed_fresh k ne unused =
+      ap (λ ps. place ps k) z.homes
+      ∙ get_or-set_other places root k (with_word_in (place places root) at.page word) free (λ same. (let no : true ≡ false = sym (root_taken b.tables places kept.rooted at.fork z.number z.numbered) ∙ ap (λ j. is_taken (place places j)) (sym same) ∙ unused in cc no))
+
+  pub renamed_maps : b'.tables.maps ≡ b.tables.maps
+  renamed_maps = ap (λ (x : Beside). x.tables.maps) z.beside
+
   pub renamed_names : (k : ℕ) → k ≢ h.0 → name_at b'.tables.names k ≡ name_at b.tables.names k
   renamed_names k ne = ap (λ (x : Tables). name_at x.names k) tables_are ∙ get_or-set_other b.tables.names h.0 k (Some title) None ne
 

@@ -55,5 +55,5 @@ module _ {S : Type 0} (store : StoreMeaning S) (old mid new : S) (b b' : Beside)
       record { tenant = k.tenant ∙ j.tenant; age = k.age ∙ j.age }
     where
       others_keep : (o : Option ℕ) → map_home_over b' fork ≡ o → MatchOption o (RenewsNone (traffic store mid) (traffic store new)) (λ home. RenewsLeft home (traffic store mid) (traffic store new)) → KeepsFrame (traffic store mid) (traffic store new) frame
-      others_keep None is u = u frame some
+      others_keep None is u = u.kept frame some
       others_keep (Some home) is u = u.others frame some (none home is)

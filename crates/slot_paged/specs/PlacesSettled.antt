@@ -1,5 +1,5 @@
 -- What a page of a place that is settled leaves.
-use Rattle.std.specs.Prelude.{◌≡◌, ◌≢◌, ◌⊎◌, ℕ, ◌+◌, ◌≤◌, List, Bool, true, MatchOption, Option, Some, is_some}
+use Rattle.std.specs.Prelude.{◌≡◌, ◌≢◌, ◌⊎◌, ℕ, ◌+◌, ◌≤◌, List, Bool, true, false, MatchOption, Option, Some, is_some}
 use Rattle.std.specs.Option.{option_and_then}
 use Rattle.machine_names.specs.declared.names.ForkName.{ForkName}
 use Rattle.machine_names.specs.declared.names.Kind.{Kind}
@@ -80,3 +80,5 @@ pub record SettlesPlace {S : Type 0} (store : StoreMeaning S) (old new : S) (b b
   pub taken : (k : ℕ) → is_taken (place (store.homes old) k) ≡ true → is_taken (place (store.homes new) k) ≡ true
   pub pages : KeepsPages b (store.homes old) (store.homes new)
   pub names : (h : Home) → homed_over b' (store.homes new) at ≡ At h → (k : ℕ) → k ≢ h.0 → name_at b'.tables.names k ≡ name_at b.tables.names k
+  pub fresh : (h : Home) → homed_over b' (store.homes new) at ≡ At h → (k : ℕ) → k ≢ h.0 → is_taken (place (store.homes old) k) ≡ false → place (store.homes new) k ≡ place (store.homes old) k
+  pub maps : b'.tables.maps ≡ b.tables.maps

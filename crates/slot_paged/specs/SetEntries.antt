@@ -139,6 +139,7 @@ pub record ChangesEntry {S : Type 0} (store : StoreMeaning S) (old new : S) (b b
   pub filed : filed_over b' ≡ filed_over b
   pub lost : Loses (traffic store old) (traffic store new)
   pub uses : UsesMapOf store old new b' at.fork
+  pub maps : b'.tables.maps ≡ b.tables.maps
   pub lives : lives_in b' ≡ lives_in b
   pub forks : forks_in b' ≡ forks_in b
   pub serials : b'.serials ≡ b.serials

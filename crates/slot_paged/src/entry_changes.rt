@@ -189,6 +189,7 @@ impl<S: Store> SlotPaged<S> {
         ensures loses { Loses (traffic S.means self.old.store) (traffic S.means self.new.store) }
         ensures uses { UsesMapOf S.means self.old.store self.new.store (beside_of self.new.tables) slot.fork }
         ensures homes { KeepsHomes S.means self.old.store self.new.store (beside_of self.old.tables) (beside_of self.new.tables) slot }
+        ensures maps { (beside_of self.new.tables).tables.maps ≡ (beside_of self.old.tables).tables.maps }
         ensures lives { lives_in (beside_of self.new.tables) ≡ lives_in (beside_of self.old.tables) }
         ensures forks { forks_in (beside_of self.new.tables) ≡ forks_in (beside_of self.old.tables) }
         ensures serials { self.new.tables.serials ≡ self.old.tables.serials }

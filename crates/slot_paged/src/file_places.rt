@@ -149,6 +149,7 @@ impl<S: Store> SlotPaged<S> {
         ensures told { (d : DrumWords) → (paged_slots S.means (λ p. p.store) (λ p. beside_of p.tables)).fits self.old d → (paged_slots S.means (λ p. p.store) (λ p. beside_of p.tables)).fits self.new d × ((paged_slots S.means (λ p. p.store) (λ p. beside_of p.tables)).plain self.new d ≡ filed_by ((paged_slots S.means (λ p. p.store) (λ p. beside_of p.tables)).plain self.old d) (file_page file.0 page) from) }
         ensures scene { StaysInCore ((paged_slots S.means (λ p. p.store) (λ p. beside_of p.tables)).scene self.old) ((paged_slots S.means (λ p. p.store) (λ p. beside_of p.tables)).scene self.new) 0 }
         ensures filed { FilesOne (paged_slots S.means (λ p. p.store) (λ p. beside_of p.tables)) (file_page file.0 page) (is_some from) self.old self.new }
+        ensures maps { (beside_of self.new.tables).tables.maps ≡ (beside_of self.old.tables).tables.maps }
         ensures homes { (k : ℕ) → PageStays (beside_of self.old.tables) (S.means.homes self.old.store) (beside_of self.new.tables) (S.means.homes self.new.store) k (IsFiled self.old.tables.files (file_page file.0 page) k) }
         ensures loses { MayLose (paged_slots S.means (λ p. p.store) (λ p. beside_of p.tables)) self.old self.new }
         ensures uses { UsesNone (paged_slots S.means (λ p. p.store) (λ p. beside_of p.tables)) self.old self.new }

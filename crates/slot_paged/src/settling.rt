@@ -108,7 +108,7 @@ impl<S: Store> SlotPaged<S> {
 }
 
 impl<S: Store> SlotPaged<S> {
-    ghost use Rattle.std.specs.Prelude.{◌≡◌, ◌≢◌, ◌+◌, ◌<◌, ◌≤◌, ◌^◌, ℕ, is_some, true};
+    ghost use Rattle.std.specs.Prelude.{◌≡◌, ◌≢◌, ◌+◌, ◌<◌, ◌≤◌, ◌^◌, ℕ, is_some, false, true};
     ghost use Rattle.machine_names.specs.declared.names.TheConstants.{SPACE_PAGES};
     ghost use Rattle.machine_names.specs.declared.names.Tty.{Tty as ATty};
     ghost use Rattle.machine_names.specs.Bounds.{IsFilePage, IsOwner};
@@ -210,6 +210,8 @@ impl<S: Store> SlotPaged<S> {
         ensures taken { (k : ℕ) → is_taken (place (S.means.homes self.old.store) k) ≡ true → is_taken (place (S.means.homes self.new.store) k) ≡ true }
         ensures pages { KeepsPages (beside_of self.old.tables) (S.means.homes self.old.store) (S.means.homes self.new.store) }
         ensures names { (h : AHome) → homed_over (beside_of self.new.tables) (S.means.homes self.new.store) at ≡ PageHome.At h → (k : ℕ) → k ≢ h.0 → name_at (beside_of self.new.tables).tables.names k ≡ name_at (beside_of self.old.tables).tables.names k }
+        ensures fresh { (h : AHome) → homed_over (beside_of self.new.tables) (S.means.homes self.new.store) at ≡ PageHome.At h → (k : ℕ) → k ≢ h.0 → is_taken (place (S.means.homes self.old.store) k) ≡ false → place (S.means.homes self.new.store) k ≡ place (S.means.homes self.old.store) k }
+        ensures maps { (beside_of self.new.tables).tables.maps ≡ (beside_of self.old.tables).tables.maps }
         ensures loses { Loses (traffic S.means self.old.store) (traffic S.means self.new.store) }
         ensures uses { UsesPlace S.means self.old.store self.new.store (beside_of self.old.tables) (beside_of self.new.tables) at kind }
         ensures filed { FilesSettled (beside_of self.old.tables) (beside_of self.new.tables) at (touched_over (beside_of self.old.tables) (S.means.homes self.old.store) (S.means.spare self.old.store) at kind) }

@@ -14,7 +14,7 @@ returns-in_default-touch g c = record {
       let open_at = rw c.in-Some.is at can in
       absurd (c.in_default-touch.not-Ready (touched ∙ ready_here p (g.P.Pages.means.scene c.args.pages.now) (slot_at c.args.fork c.in-Some.put.at) Write c.args.fork.tty open_at.near open_at.makes));
   fits = λ d fits. fits;
-  stays = record { touched = refl; scene = refl; space = refl; place = refl; filed = refl; map_homes = refl; page_homes = refl; lives = refl; forks = refl; serials = refl; most = refl };
+  stays = record { touched = refl; scene = refl; space = refl; place = refl; filed = refl; map_homes = refl; page_homes = refl; lives = refl; forks = refl; serials = refl; count = refl; most = refl };
   loses = lost_none g.P.Pages.means c.args.pages.now;
 }
 

@@ -20,7 +20,7 @@ store_at-requires-clause-address g c = rw c.loop-i.invariant.next (behind_low c.
 pub loop-i-init : goal.loop-i-init
 loop-i-init g c = record {
   next = first_address c.args.at c.requires.address;
-  stays = record { touched = refl; scene = refl; space = refl; place = refl; filed = refl; map_homes = refl; page_homes = refl; lives = refl; forks = refl; serials = refl; most = refl };
+  stays = record { touched = refl; scene = refl; space = refl; place = refl; filed = refl; map_homes = refl; page_homes = refl; lives = refl; forks = refl; serials = refl; count = refl; most = refl };
   loses = lost_none g.P.Pages.means c.args.pages.now;
   fits = λ d fits. fits;
   open_at = λ d fits all. all;

@@ -14,7 +14,7 @@ here_taken (here words) e = refl
 pub index_mut-requires : goal.index_mut-requires
 index_mut-requires g c =
     let places = g.S.Store.means.homes c.args.store.now in
-    let inside : c.copy-home.result.0 < length c.args.tables.now.names.items = omega (arith, c.copy-home.ensures.below, c.requires.rooted.few, length-map places is_taken) in search rules
+    let inside : c.copy-home.result.0 < length c.args.tables.now.names.items = omega (arith, c.copy-home.ensures.made.below, c.requires.rooted.few, length-map places is_taken) in search rules
 
 pub returns : goal.returns
 returns g c =
@@ -22,7 +22,7 @@ returns g c =
     let places = g.S.Store.means.homes c.args.store.now in
     let pages = (g.met.S.Store.sound c.args.store.now).pages in
     let r = c.requires in
-    let m = c.copy-home.ensures in
+    let m = c.copy-home.ensures.made in
     let home = c.copy-home.result in
     let after = with_name t home c.args.name in
     let page = place places c.args.from.0 in

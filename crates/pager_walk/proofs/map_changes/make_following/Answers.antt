@@ -7,7 +7,7 @@ use Rattle.pager_walk.proofs.Followed.{following_none, following_more, made_agai
 use Rattle.pager_walk.proofs.map_changes.make_following.Goals as goal
 
 pub loop-page-init : goal.loop-page-init
-loop-page-init g c = subst (λ words. IsMade g.S.Store.means c.make-home.result.0 (here words) c.args.store.now c.make-home.new.self) (sym (following_none c.args.serial)) c.make-home.ensures
+loop-page-init g c = subst (λ words. IsMade g.S.Store.means c.make-home.result.0 (here words) c.args.store.now c.make-home.new.self) (sym (following_none c.args.serial)) c.make-home.ensures.made
 
 pub loop-page-preserved : goal.loop-page-preserved
 loop-page-preserved g c =

@@ -9,7 +9,7 @@ use Rattle.pager_walk.proofs.map_changes.make_page.Goals as goal
 pub index_mut-requires : goal.index_mut-requires
 index_mut-requires g c =
     let places = g.S.Store.means.homes c.args.store.now in
-    let inside : c.make-home.result.0 < length c.args.tables.now.names.items = omega (arith, c.make-home.ensures.below, c.requires.rooted.few, length-map places is_taken) in search rules
+    let inside : c.make-home.result.0 < length c.args.tables.now.names.items = omega (arith, c.make-home.ensures.made.below, c.requires.rooted.few, length-map places is_taken) in search rules
 
 pub returns : goal.returns
 returns g c =
@@ -17,7 +17,7 @@ returns g c =
     let places = g.S.Store.means.homes c.args.store.now in
     let pages = (g.met.S.Store.sound c.args.store.now).pages in
     let r = c.requires in
-    let m = c.make-home.ensures in
+    let m = c.make-home.ensures.made in
     let home = c.make-home.result in
     let after = with_name t home c.args.name in
     record {

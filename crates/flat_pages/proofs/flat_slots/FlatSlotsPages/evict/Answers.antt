@@ -27,7 +27,7 @@ returns-clause-same g c =
         lives = refl;
         forks = refl;
         serials = refl;
+        count = refl;
         most = refl;
       };
-      count = refl;
     }

@@ -64,6 +64,7 @@ returns-in-Some-clause-stays g c =
       lives = refl;
       forks = refl;
       serials = refl;
+      count = refl;
       most = refl;
     }
 

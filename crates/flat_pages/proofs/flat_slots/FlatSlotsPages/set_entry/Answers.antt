@@ -1,4 +1,4 @@
-use Rattle.std.proofs.Common.{Option, None, Some, sym, ◌∙◌, ap, subst}
+use Rattle.std.proofs.Common.{Option, None, Some, refl, sym, ◌∙◌, ap, subst}
 use Rattle.std.specs.Prelude.{IsSome}
 use Rattle.std.specs.Option.{option_map}
 use Rattle.machine_names.specs.declared.names.PageName.{PageName}
@@ -12,6 +12,7 @@ use Rattle.plain_pages.specs.declared.map.NewEntry.{NewEntry}
 use Rattle.flat_pages.specs.declared.held_entry.HeldEntry.{HeldEntry}
 use Rattle.flat_pages.specs.SlotSteps.{SetsEntry}
 use Rattle.flat_pages.specs.TableSteps.{tables_of}
+use Rattle.flat_pages.proofs.MapHomes.{sets_entry}
 use Rattle.flat_pages.proofs.SlotSetting.{Changes, fork_some, seen_there, narrowed_page, set_lives, set_living, told_empty, told_follows, told_narrow, told_page}
 use Rattle.flat_pages.proofs.flat_slots.FlatSlotsPages.set_entry.Goals as goal
 
@@ -129,3 +130,31 @@ returns-in-Some-filed-clause-filed g c = ap fin.get c.set_filed.ensures.filed
 
 pub returns-in-Some-filed-clause-uses : goal.returns-in-Some-filed-clause-uses
 returns-in-Some-filed-clause-uses g c = c.set_filed.ensures.used
+
+pub returns-in-Empty-clause-sets : goal.returns-in-Empty-clause-sets
+returns-in-Empty-clause-sets g c =
+    let now = c.args.self.now in
+    let new = c.set_unnamed.new.self in
+    let store = g.S.Store.means in
+    sets_entry store (λ p. p.store) (λ p. tables_of (store.homes p.store) p.tables) now new c.args.slot.fork now.agree new.agree c.args.slot c.in-Some.map (sym c.map_of.ensures ∙ c.in-Some.is) refl refl c.set_unnamed.ensures.homes
+
+pub returns-in-Follows-clause-sets : goal.returns-in-Follows-clause-sets
+returns-in-Follows-clause-sets g c =
+    let now = c.args.self.now in
+    let new = c.set_unnamed-in-Follows.new.self in
+    let store = g.S.Store.means in
+    sets_entry store (λ p. p.store) (λ p. tables_of (store.homes p.store) p.tables) now new c.args.slot.fork now.agree new.agree c.args.slot c.in-Some.map (sym c.map_of.ensures ∙ c.in-Some.is) refl refl c.set_unnamed-in-Follows.ensures.homes
+
+pub returns-in-Narrow-clause-sets : goal.returns-in-Narrow-clause-sets
+returns-in-Narrow-clause-sets g c =
+    let now = c.args.self.now in
+    let new = c.set_kept.new.self in
+    let store = g.S.Store.means in
+    sets_entry store (λ p. p.store) (λ p. tables_of (store.homes p.store) p.tables) now new c.args.slot.fork now.agree new.agree c.args.slot c.in-Some.map (sym c.map_of.ensures ∙ c.in-Some.is) refl refl c.set_kept.ensures.homes
+
+pub returns-in-Some-filed-clause-sets : goal.returns-in-Some-filed-clause-sets
+returns-in-Some-filed-clause-sets g c =
+    let now = c.args.self.now in
+    let new = c.set_filed.new.self in
+    let store = g.S.Store.means in
+    sets_entry store (λ p. p.store) (λ p. tables_of (store.homes p.store) p.tables) now new c.args.slot.fork now.agree new.agree c.args.slot c.in-Some.map (sym c.map_of.ensures ∙ c.in-Some.is) refl refl c.set_filed.ensures.homes

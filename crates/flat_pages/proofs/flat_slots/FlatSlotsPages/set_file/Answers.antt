@@ -1,4 +1,4 @@
-use Rattle.std.proofs.Common.{◌≡◌, ap, ◌∙◌, Some, None, sym, is_some, Option}
+use Rattle.std.proofs.Common.{◌≡◌, refl, ap, ◌∙◌, Some, None, sym, is_some, Option}
 use Rattle.machine_names.specs.Orders.{file_page}
 use Rattle.machine_names.specs.declared.names.PageName.{PageName}
 use Rattle.machine_names.specs.declared.names.Place.TheVariants.{Fork}
@@ -14,6 +14,7 @@ use Rattle.flat_pages.specs.Serials.{serial_of}
 use Rattle.flat_pages.specs.SlotTables.{plain_of}
 use Rattle.flat_pages.specs.TableSteps.{tables_of}
 use Rattle.flat_pages.proofs.FilePlaces.{given_slot, ready_entry, ready_some, files_one}
+use Rattle.flat_pages.proofs.MapHomes.{sets_file}
 use Rattle.flat_pages.proofs.Meeting.{reached}
 use Rattle.flat_pages.proofs.flat_slots.FlatSlotsPages.set_file.Goals as goal
 
@@ -26,6 +27,7 @@ returns-in_default g c =
       told = λ d fits. (let r = k.told d fits in (r.0, r.1 ∙ sym (ap (λ (o : Option Slot). filed_by (plain_of (tables_of (store.homes s.store) s.tables) d) (file_page c.args.file.0 c.args.page) o) c.in_default.is)));
       scene = k.core;
       filed = files_one store (λ p. p.store) (λ p. p.tables) s new (file_page c.args.file.0 c.args.page) None k _ (sym (ap is_some c.in_default.is));
+      sets = sets_file store (λ p. p.store) (λ p. tables_of (store.homes p.store) p.tables) s new (record { tty = record { 0 = 0 }; serial = 0 }) s.agree new.agree (file_page c.args.file.0 c.args.page) refl refl k.homes;
       loses = k.lost;
       uses = k.used;
       lives = λ i f. is_some (index_of (k.maps i) f);
@@ -57,6 +59,7 @@ returns g c =
           (x.0, x.1 ∙ sym (ap (λ (o : Option Slot). filed_by (plain_of t d) (file_page c.args.file.0 c.args.page) o) c.in-Some.is ∙ ap (λ (o : Option PageName). with_file (plain_of t d) (file_page c.args.file.0 c.args.page) o) (r.page d))));
       scene = k.core;
       filed = files_one store (λ p. p.store) (λ p. p.tables) s new (file_page c.args.file.0 c.args.page) (Some c.in-Some-home_of.home) k _ (sym (ap is_some c.in-Some.is));
+      sets = sets_file store (λ p. p.store) (λ p. tables_of (store.homes p.store) p.tables) s new (record { tty = record { 0 = 0 }; serial = 0 }) s.agree new.agree (file_page c.args.file.0 c.args.page) refl refl k.homes;
       loses = k.lost;
       uses = k.used;
       lives = λ i f. is_some (index_of (k.maps i) f);

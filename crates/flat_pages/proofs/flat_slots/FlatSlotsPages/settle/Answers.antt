@@ -1,17 +1,18 @@
-use Rattle.std.proofs.Common.{◌≡◌, ◌∙◌, true, false, is_some, Some, sym, ap, subst, List, refl}
+use Rattle.std.proofs.Common.{◌≡◌, ◌≢◌, ◌∙◌, inl, inr, ℕ, true, false, is_some, None, Some, sym, ap, subst, List, refl}
 use Rattle.page_homes.specs.declared.homes.Home.{Home}
 use Rattle.machine_names.specs.declared.names.Place.{Place}
 use Rattle.plain_pages.specs.References.{settled}
 use Rattle.page_contracts.specs.Pages.{spot_of}
 use Rattle.machine_names.specs.PageWords.{zero_words}
 use Rattle.page_contracts.specs.declared.answers.Touch.TheVariants.{Ready, Copy}
-use Rattle.page_contracts.specs.Stores.{HomePlace, FitsHomes, here, place}
+use Rattle.page_contracts.specs.Stores.{HomePlace, FitsHomes, free, here, place}
+use Rattle.std.proofs.lemmas.List.{get_or-set_other}
 use Rattle.plain_pages.specs.Maps.{full_access}
 use Rattle.flat_pages.specs.declared.held_entry.HeldEntry.TheVariants.{Page}
-use Rattle.flat_pages.specs.HeldMaps.{held_entry, index_of, living_of, with_entry}
-use Rattle.flat_pages.specs.SlotTables.{Tables, plain_of, share_of}
+use Rattle.flat_pages.specs.HeldMaps.{held_entry, index_of, living_of, name_at, with_entry}
+use Rattle.flat_pages.specs.SlotTables.{AreTables, Tables, plain_of, share_of}
 use Rattle.flat_pages.specs.SlotTouches.{is_alone, touch_of_place}
-use Rattle.flat_pages.specs.TableSteps.{tables_of}
+use Rattle.flat_pages.specs.TableSteps.{next_name, tables_of}
 use Rattle.machine_names.specs.Orders.{file_page}
 use Rattle.flat_pages.proofs.Agreement.{filed_named}
 use Rattle.flat_pages.proofs.FileSettles.{file_bounds, file_settled, near, ready_at, settled_at, zero_frame, zero_room}
@@ -23,7 +24,7 @@ use Rattle.flat_pages.proofs.EntrySetting.{names_none}
 use Rattle.flat_pages.proofs.Settled.{slot_lives, one_is, not_one}
 use Rattle.flat_pages.proofs.flat_slots.FlatSlotsPages.settle.Goals as goal
 use Rattle.page_contracts.proofs.Losing.{loses_made, loses_used, made_one, used_one}
-use Rattle.flat_pages.proofs.Using.{fork_filed, made_here, used_here, stands_nowhere, used_at, uses_there}
+use Rattle.flat_pages.proofs.Using.{fork_filed, made_here, used_here, stands_nowhere, used_at, settles_there, uses_there}
 use Rattle.flat_pages.proofs.flat_slots.FlatSlotsPages.settle.Goals.{in_default-entry-via-in-Page+else-share-eq1, in_default-entry-via-in_default-entry}
 
 pub make_zero-requires-clause-empty : goal.make_zero-requires-clause-empty
@@ -399,6 +400,23 @@ returns-in_default-home-clause-uses g c =
     let lives = still_lives t.maps u.maps w.end (Page made.home full_access) maps c.in-Fork.slot.fork r.lives in
     uses_there store (λ p. p.store) (λ p. tables_of (store.homes p.store) p.tables) s new c.args.at c.in-Fork.slot c.in-Fork.is lives made.home ends (g.met.S.Store.sound new.store) (made_here store s.store new.store made.home.0 (here zero_words) made.made refl) c.args.kind (made_one store s.store new.store made.home.0 (here zero_words) made.made)
 
+pub returns-in_default-home-clause-homes : goal.returns-in_default-home-clause-homes
+returns-in_default-home-clause-homes g c =
+    let s = c.args.self.now in
+    let store = g.S.Store.means in
+    let t = tables_of (store.homes s.store) s.tables in
+    let new = c.make_zero.new.self in
+    let made = c.make_zero.ensures in
+    let w = c.in-Some.walk in
+    let r = announced t (store.spare s.store) c.args.at c.in-Fork.slot c.args.kind w c.in-Fork.is c.requires.place (sym c.walk.ensures ∙ c.in-Some.is) c.requires.ready in
+    let u = tables_of (store.homes new.store) new.tables in
+    let maps : u.maps ≡ with_entry t.maps w.end (Page made.home full_access) = ap (λ (x : Tables). x.maps) made.taken in
+    let ends = zero_ends t s.agree (store.spare s.store) c.in-Fork.slot c.args.kind w r u made.home c.in_default-home.is maps in
+    let lives = still_lives t.maps u.maps w.end (Page made.home full_access) maps c.in-Fork.slot.fork r.lives in
+    settles_there store (λ p. p.store) (λ p. tables_of (store.homes p.store) p.tables) s new c.args.at c.in-Fork.slot c.in-Fork.is lives made.home ends (g.met.S.Store.sound new.store) (made_here store s.store new.store made.home.0 (here zero_words) made.made refl) s.agree new.agree refl refl
+    (λ k ne. ap (λ (x : Tables). place x.places k) made.taken ∙ get_or-set_other (store.homes s.store) made.home.0 k (here zero_words) free ne)
+    (λ k ne. ap (λ (x : Tables). name_at x.names k) made.taken ∙ get_or-set_other t.names made.home.0 k (Some (next_name t.serials c.args.owner)) None ne) (inl made.made.was_free)
+
 pub returns-in_default-home-clause-ready : goal.returns-in_default-home-clause-ready
 returns-in_default-home-clause-ready g c home touched stands =
     let s = c.args.self.now in
@@ -421,6 +439,17 @@ returns-in_default-copy_for-clause-uses g c =
     let stood = home_here t s.agree (store.spare s.store) c.in-Fork.slot c.args.kind w r c.in-Some-home.home c.in-Some-home.is (ready_away t s.agree (store.spare s.store) c.in-Fork.slot c.args.kind w r c.in-Some-home.home c.in-Some-home.is (sym c.copy_for.ensures ∙ c.in_default-copy_for.is)) in
     let ends : EndsAt t.maps c.in-Fork.slot c.in-Some-home.home = record { walk = w; is = r.walks; home = c.in-Some-home.is } in
     uses_there store (λ p. p.store) (λ p. tables_of (store.homes p.store) p.tables) s _ c.args.at c.in-Fork.slot c.in-Fork.is r.lives c.in-Some-home.home ends (g.met.S.Store.sound c.used.new.self) (used_here store s.store c.used.new.self c.in-Some-home.home.0 c.used.ensures.homes stood) c.args.kind (used_one store s.store c.used.new.self c.in-Some-home.home.0 c.used.ensures.used)
+
+pub returns-in_default-copy_for-clause-homes : goal.returns-in_default-copy_for-clause-homes
+returns-in_default-copy_for-clause-homes g c =
+    let s = c.args.self.now in
+    let store = g.S.Store.means in
+    let t = tables_of (store.homes s.store) s.tables in
+    let w = c.in-Some.walk in
+    let r = announced t (store.spare s.store) c.args.at c.in-Fork.slot c.args.kind w c.in-Fork.is c.requires.place (sym c.walk.ensures ∙ c.in-Some.is) c.requires.ready in
+    let stood = home_here t s.agree (store.spare s.store) c.in-Fork.slot c.args.kind w r c.in-Some-home.home c.in-Some-home.is (ready_away t s.agree (store.spare s.store) c.in-Fork.slot c.args.kind w r c.in-Some-home.home c.in-Some-home.is (sym c.copy_for.ensures ∙ c.in_default-copy_for.is)) in
+    let ends : EndsAt t.maps c.in-Fork.slot c.in-Some-home.home = record { walk = w; is = r.walks; home = c.in-Some-home.is } in
+    settles_there store (λ p. p.store) (λ p. tables_of (store.homes p.store) p.tables) s _ c.args.at c.in-Fork.slot c.in-Fork.is r.lives c.in-Some-home.home ends (g.met.S.Store.sound c.used.new.self) (used_here store s.store c.used.new.self c.in-Some-home.home.0 c.used.ensures.homes stood) s.agree (subst (λ (ps : List HomePlace). AreTables (tables_of ps s.tables)) (sym c.used.ensures.homes) s.agree) refl refl (λ k ne. ap (λ (ps : List HomePlace). place ps k) c.used.ensures.homes) (λ k ne. refl) (inr (ap (λ (ps : List HomePlace). place ps c.in-Some-home.home.0) c.used.ensures.homes))
 
 pub returns-in_default-copy_for-clause-ready : goal.returns-in_default-copy_for-clause-ready
 returns-in_default-copy_for-clause-ready g c home touched stands =
@@ -452,6 +481,27 @@ returns-in-Page-clause-uses g c =
     let ends = copy_ends t s.agree (store.spare s.store) c.in-Fork.slot c.args.kind w r u home to access c.entry.result (sym c.copy_for.ensures ∙ c.in-Some-copy_for.is) c.entry.ensures refl refl maps in
     let lives = still_lives t.maps u.maps to (Page home access) maps c.in-Fork.slot.fork r.lives in
     uses_there store (λ p. p.store) (λ p. tables_of (store.homes p.store) p.tables) s new c.args.at c.in-Fork.slot c.in-Fork.is lives home ends (g.met.S.Store.sound new.store) (used_here store s.store new.store home.0 c.copy_alone.ensures.homes stood) c.args.kind (used_one store s.store new.store home.0 c.copy_alone.ensures.used)
+
+pub returns-in-Page-clause-homes : goal.returns-in-Page-clause-homes
+returns-in-Page-clause-homes g c =
+    let s = c.args.self.now in
+    let store = g.S.Store.means in
+    let t = tables_of (store.homes s.store) s.tables in
+    let w = c.in-Some.walk in
+    let r = announced t (store.spare s.store) c.args.at c.in-Fork.slot c.args.kind w c.in-Fork.is c.requires.place (sym c.walk.ensures ∙ c.in-Some.is) c.requires.ready in
+    let can = can_copy t s.agree (store.spare s.store) c.in-Fork.slot c.args.kind w r c.in-Some-home.home c.in-Some-copy_for.to c.in-Some-home.is (sym c.copy_for.ensures ∙ c.in-Some-copy_for.is) in
+    let stood = home_here t s.agree (store.spare s.store) c.in-Fork.slot c.args.kind w r c.in-Some-home.home c.in-Some-home.is can.away in
+    let new = c.copy_alone.new.self in
+    let u = tables_of (store.homes new.store) new.tables in
+    let to = c.in-Some-copy_for.to in
+    let access = record full_access { x = w.executes } in
+    let home = c.in-Some-home.home in
+    let maps : u.maps ≡ with_entry t.maps to (Page home access) = ap (λ (x : Tables). x.maps) c.copy_alone.ensures.tables in
+    let ends = copy_ends t s.agree (store.spare s.store) c.in-Fork.slot c.args.kind w r u home to access c.entry.result (sym c.copy_for.ensures ∙ c.in-Some-copy_for.is) c.entry.ensures refl refl maps in
+    let lives = still_lives t.maps u.maps to (Page home access) maps c.in-Fork.slot.fork r.lives in
+    settles_there store (λ p. p.store) (λ p. tables_of (store.homes p.store) p.tables) s new c.args.at c.in-Fork.slot c.in-Fork.is lives home ends (g.met.S.Store.sound new.store) (used_here store s.store new.store home.0 c.copy_alone.ensures.homes stood) s.agree new.agree refl refl
+    (λ k ne. ap (λ (ps : List HomePlace). place ps k) c.copy_alone.ensures.homes)
+    (λ k ne. ap (λ (x : Tables). name_at x.names k) c.copy_alone.ensures.tables ∙ get_or-set_other t.names home.0 k (Some (next_name t.serials c.args.owner)) None ne) (inr (ap (λ (ps : List HomePlace). place ps home.0) c.copy_alone.ensures.homes))
 
 pub returns-in-Page-clause-ready : goal.returns-in-Page-clause-ready
 returns-in-Page-clause-ready g c home touched stands =
@@ -487,6 +537,27 @@ returns-in_default-entry-clause-uses g c =
     let ends = copy_ends t s.agree (store.spare s.store) c.in-Fork.slot c.args.kind w r u made.home to access c.entry.result (sym c.copy_for.ensures ∙ c.in-Some-copy_for.is) c.entry.ensures refl refl maps in
     let lives = still_lives t.maps u.maps to (Page made.home access) maps c.in-Fork.slot.fork r.lives in
     uses_there store (λ p. p.store) (λ p. tables_of (store.homes p.store) p.tables) s new c.args.at c.in-Fork.slot c.in-Fork.is lives made.home ends (g.met.S.Store.sound new.store) (made_here store s.store new.store made.home.0 (place t.places c.in-Some-home.home.0) made.made stood) c.args.kind (made_one store s.store new.store made.home.0 (place t.places c.in-Some-home.home.0) made.made)
+
+pub returns-in_default-entry-clause-homes : goal.returns-in_default-entry-clause-homes
+returns-in_default-entry-clause-homes g c =
+    let s = c.args.self.now in
+    let store = g.S.Store.means in
+    let t = tables_of (store.homes s.store) s.tables in
+    let w = c.in-Some.walk in
+    let r = announced t (store.spare s.store) c.args.at c.in-Fork.slot c.args.kind w c.in-Fork.is c.requires.place (sym c.walk.ensures ∙ c.in-Some.is) c.requires.ready in
+    let can = can_copy t s.agree (store.spare s.store) c.in-Fork.slot c.args.kind w r c.in-Some-home.home c.in-Some-copy_for.to c.in-Some-home.is (sym c.copy_for.ensures ∙ c.in-Some-copy_for.is) in
+    let stood = home_here t s.agree (store.spare s.store) c.in-Fork.slot c.args.kind w r c.in-Some-home.home c.in-Some-home.is can.away in
+    let new = c.copy_new.new.self in
+    let made = c.copy_new.ensures in
+    let u = tables_of (store.homes new.store) new.tables in
+    let to = c.in-Some-copy_for.to in
+    let access = record full_access { x = w.executes } in
+    let maps : u.maps ≡ with_entry t.maps to (Page made.home access) = ap (λ (x : Tables). x.maps) made.taken in
+    let ends = copy_ends t s.agree (store.spare s.store) c.in-Fork.slot c.args.kind w r u made.home to access c.entry.result (sym c.copy_for.ensures ∙ c.in-Some-copy_for.is) c.entry.ensures refl refl maps in
+    let lives = still_lives t.maps u.maps to (Page made.home access) maps c.in-Fork.slot.fork r.lives in
+    settles_there store (λ p. p.store) (λ p. tables_of (store.homes p.store) p.tables) s new c.args.at c.in-Fork.slot c.in-Fork.is lives made.home ends (g.met.S.Store.sound new.store) (made_here store s.store new.store made.home.0 (place t.places c.in-Some-home.home.0) made.made stood) s.agree new.agree refl refl
+    (λ k ne. ap (λ (x : Tables). place x.places k) made.taken ∙ get_or-set_other (store.homes s.store) made.home.0 k (place t.places c.in-Some-home.home.0) free ne)
+    (λ k ne. ap (λ (x : Tables). name_at x.names k) made.taken ∙ get_or-set_other t.names made.home.0 k (Some (next_name t.serials c.args.owner)) None ne) (inl made.made.was_free)
 
 pub returns-in_default-entry-clause-ready : goal.returns-in_default-entry-clause-ready
 returns-in_default-entry-clause-ready g c home touched stands =
@@ -539,6 +610,7 @@ returns-in-File g c =
       count = k.count;
       loses = k.loses;
       uses = k.uses;
+      homes = k.homes;
       filed = k.filed;
       ready = k.ready;
       lives = λ i f. is_some (index_of (done.maps i) f);

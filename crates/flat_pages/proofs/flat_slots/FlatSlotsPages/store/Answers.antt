@@ -59,6 +59,7 @@ returns-clause-stays g c =
       lives = refl;
       forks = refl;
       serials = refl;
+      count = refl;
       most = refl;
     }
 

@@ -1,4 +1,4 @@
-use Rattle.std.proofs.Common.{◌≡◌, ◌∙◌, ℕ, true, false, refl, sym, ap, subst, arith, List, []}
+use Rattle.std.proofs.Common.{◌≡◌, ◌∙◌, inl, ℕ, true, false, refl, sym, ap, subst, arith, List, []}
 use Rattle.page_homes.specs.declared.homes.Home.{Home}
 use Rattle.page_contracts.specs.declared.answers.Need.{Need}
 use Rattle.page_contracts.specs.declared.answers.Need.TheVariants.{Page, Frame}
@@ -25,4 +25,4 @@ pub returns-clause-fetched : goal.returns-clause-fetched
 returns-clause-fetched c =
     let s = c.args.self.now in
     subst (λ (need : Need). IsFetched flat_meaning need s s) (sym (frame (places_of (pages_of s.pages)) (core_is (pages_of s.pages)) c.args.need (asked s c.args.need c.requires)))
-    (record { homes = refl; queue = refl; spare = omega arith; untold = refl; holds = refl; found = refl; members = refl; ages = λ frame some. refl })
+    (record { homes = refl; queue = refl; spare = omega arith; untold = refl; holds = refl; frames = refl; found = refl; tenant = refl; members = refl; ages = λ frame some. refl; uses = inl refl })

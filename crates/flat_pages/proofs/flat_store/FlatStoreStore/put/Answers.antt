@@ -1,5 +1,6 @@
-use Rattle.std.proofs.Common.{◌∙◌, refl, sym, ap, subst, slice_set, rules, List}
-use Rattle.page_contracts.specs.Stores.{free_homes}
+use Rattle.std.proofs.Common.{◌∙◌, length, arith, refl, sym, ap, subst, slice_set, rules, List}
+use Rattle.std.proofs.lemmas.List.{length-set}
+use Rattle.page_contracts.specs.Stores.{HomePlace, free_homes}
 use Rattle.flat_pages.specs.StoredLists.{pages_of}
 use Rattle.flat_pages.specs.StoredPages.{StoredPage, stored_at, places_of, found_at, AreStored}
 use Rattle.flat_pages.proofs.StoredPlaces.{put_stored, put_places, put_found, put_spare, word_fits}
@@ -26,6 +27,7 @@ returns-clause-used c =
     let fits = word_fits (stored_at (pages_of s.pages) c.args.home.0).words c.args.at c.args.word (s.stored.words c.args.home.0) (search rules) in
     record {
       framed = record {
+        frames = ap (λ (ps : List HomePlace). length ps) (ap places_of c.put.ensures ∙ put_places s.stored c.args.home.0 c.args.at c.args.word c.requires.taken) ∙ length-set _ _ _;
         spare = ap (λ (ps : List StoredPage). free_homes (places_of ps)) c.put.ensures ∙ put_spare s.stored c.args.home.0 words c.requires.taken fits;
         found = ap (λ (ps : List StoredPage). found_at (places_of ps)) c.put.ensures ∙ put_found s.stored c.args.home.0 words c.requires.taken;
         tenant = refl;
@@ -33,5 +35,5 @@ returns-clause-used c =
       };
       rescued = record { queue = refl; untold = refl };
       holds = refl;
-      ages = record { youngest = λ frame other is. absurd (cc is); others = λ frame no. refl };
+      ages = record { counted = record { own = λ frame is. absurd (cc is); none = λ away. refl; grows = omega arith }; others = λ frame no. refl };
     }

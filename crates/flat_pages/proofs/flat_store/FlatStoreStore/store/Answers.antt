@@ -1,5 +1,6 @@
-use Rattle.std.proofs.Common.{◌≡◌, ◌∙◌, true, refl, sym, ap, subst, slice_set, rules, List}
-use Rattle.page_contracts.specs.Stores.{place, is_taken, with_word_in, free_homes}
+use Rattle.std.proofs.Common.{◌≡◌, ◌∙◌, length, arith, true, refl, sym, ap, subst, slice_set, rules, List}
+use Rattle.std.proofs.lemmas.List.{length-set}
+use Rattle.page_contracts.specs.Stores.{HomePlace, place, is_taken, with_word_in, free_homes}
 use Rattle.flat_pages.specs.StoredLists.{pages_of}
 use Rattle.flat_pages.specs.StoredPages.{StoredPage, stored_at, places_of, found_at, AreStored}
 use Rattle.flat_pages.proofs.StoredPlaces.{put_stored, put_places, put_found, put_spare, word_fits, found_home}
@@ -36,6 +37,7 @@ returns-clause-used c home is_found =
     let fits = word_fits (stored_at (pages_of s.pages) h).words c.args.at c.args.word (s.stored.words h) (search rules) in
     record {
       framed = record {
+        frames = ap (λ (ps : List HomePlace). length ps) (ap places_of c.put.ensures ∙ put_places s.stored h c.args.at c.args.word taken) ∙ length-set _ _ _;
         spare = ap (λ (ps : List StoredPage). free_homes (places_of ps)) c.put.ensures ∙ put_spare s.stored h words taken fits;
         found = ap (λ (ps : List StoredPage). found_at (places_of ps)) c.put.ensures ∙ put_found s.stored h words taken;
         tenant = refl;
@@ -43,5 +45,5 @@ returns-clause-used c home is_found =
       };
       rescued = record { queue = refl; untold = refl };
       holds = refl;
-      ages = record { youngest = λ frame other is. absurd (cc is); others = λ frame no. refl };
+      ages = record { counted = record { own = λ frame is. absurd (cc is); none = λ away. refl; grows = omega arith }; others = λ frame no. refl };
     }

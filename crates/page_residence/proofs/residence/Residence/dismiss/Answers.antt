@@ -1,8 +1,9 @@
-use Rattle.std.proofs.Common.{true}
+use Rattle.std.proofs.Common.{true, refl}
 use Rattle.page_residence.proofs.Agreeing.{agrees, resides}
 use Rattle.page_residence.proofs.Steps.{resident_dismissed}
 use Rattle.page_residence.proofs.Seating.{home_below}
 use Rattle.page_residence.proofs.Renewing.{marked_ages}
+use Rattle.page_residence.proofs.Numbered.{tenant_aged}
 use Rattle.page_residence.proofs.residence.Residence.dismiss.Goals as goal
 
 pub invariant_of-self : goal.invariant_of-self
@@ -11,6 +12,7 @@ invariant_of-self c =
     record {
       resident = rw (c.set_transfer.ensures, c.start_write.ensures)
           (resides _ _ (resident_dismissed s.frames s.queue c.args.f c.args.home (agrees s.frames s.queue s.resident) c.requires.given c.requires.still));
+      aged = rw c.set_transfer.ensures (tenant_aged s.frames c.args.f.0 (λ t. record t { in_transfer = true }) (home_below s.frames.seats c.args.f.0 c.args.home.0 c.requires.given) (λ t. refl) s.aged);
     }
 
 pub returns-clause-ages : goal.returns-clause-ages

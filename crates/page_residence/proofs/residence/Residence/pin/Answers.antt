@@ -3,6 +3,7 @@ use Rattle.frame_table.specs.declared.tenant.Tenant.{Tenant}
 use Rattle.page_residence.proofs.Agreeing.{agrees, resides}
 use Rattle.page_residence.proofs.Steps.{resident_tenant, taken_home}
 use Rattle.page_residence.proofs.Seating.{home_below}
+use Rattle.page_residence.proofs.Numbered.{tenant_aged}
 use Rattle.page_residence.proofs.residence.Residence.pin.Goals as goal
 
 pub invariant_of-self : goal.invariant_of-self
@@ -13,4 +14,5 @@ invariant_of-self c =
       resident = rw c.pin.ensures
           (resides _ _ (resident_tenant s.frames s.queue c.args.f.0 s.frames.uses (λ (t : Tenant). record t { pins = t.pins + 1 }) (agrees s.frames s.queue s.resident)
           (home_below s.frames.seats c.args.f.0 own.0 own.1) (λ t. refl) (λ t. refl) (λ t. refl)));
+      aged = rw c.pin.ensures (tenant_aged s.frames c.args.f.0 (λ (t : Tenant). record t { pins = t.pins + 1 }) (home_below s.frames.seats c.args.f.0 own.0 own.1) (λ t. refl) s.aged);
     }

@@ -4,6 +4,7 @@ use Rattle.page_residence.proofs.Agreeing.{agrees, resides}
 use Rattle.page_residence.proofs.Finding.{away_is, none_vacant}
 use Rattle.page_residence.proofs.Steps.{given_seated, resident_seated}
 use Rattle.page_residence.proofs.Renewing.{given_renews}
+use Rattle.page_residence.proofs.Numbered.{page_aged, words_aged}
 use Rattle.page_residence.proofs.residence.Residence.seat.Goals as goal
 
 pub assign-requires-clause-away : goal.assign-requires-clause-away
@@ -16,6 +17,7 @@ invariant_of-self c =
       resident = rw (c.fill.ensures, c.in-Some.ensures.assigned)
           (resides _ _ (resident_seated s.frames s.queue c.in-Some.f.0 c.args.home c.args.words.now (agrees s.frames s.queue s.resident) c.in-Some.ensures.frame.below c.in-Some.ensures.frame.free
           (away_is s.frames c.args.home c.requires.away) c.requires.page));
+      aged = rw (c.fill.ensures, c.in-Some.ensures.assigned) (words_aged _ c.in-Some.f.0 c.args.words.now (page_aged s.frames c.in-Some.f.0 c.args.home c.in-Some.ensures.whole c.in-Some.ensures.frame.below s.aged));
     }
 
 pub unreachable-requires : goal.unreachable-requires

@@ -1,4 +1,4 @@
-use Rattle.std.proofs.Common.{◌≡◌, ◌<◌, ◌≤◌, ◌+◌, ◌∙◌, ℕ, List, [], ◌∷◌, ◌++◌, Some, None, refl, sym, ap, subst, length, map, count_by, arith, rules}
+use Rattle.std.proofs.Common.{◌≡◌, ◌<◌, ◌≤◌, ◌+◌, ◌∙◌, inr, is_some, ℕ, List, [], ◌∷◌, ◌++◌, Some, None, refl, sym, ap, subst, length, map, count_by, arith, rules}
 use Rattle.std.specs.Prelude.{is_none}
 use Rattle.std.proofs.lemmas.List.{map-append, length-set}
 use Rattle.page_homes.specs.declared.homes.FrameId.{FrameId}
@@ -14,7 +14,7 @@ use Rattle.paged_store.specs.StoreSteps.{departing}
 use Rattle.paged_store.proofs.Taking.{flag_below}
 use Rattle.paged_store.proofs.Fetching.{away_taken, joins_at, begins_at, waits_at, given_spare, expected_homes, expected_found, kept_expected, read_own, read_other}
 use Rattle.paged_store.proofs.Fetched.{fetched_at, fetched_same, fetched_waits, rest_moved}
-use Rattle.page_residence.proofs.Renewing.{ages_begun}
+use Rattle.page_residence.proofs.Renewing.{ages_begun, tenants_begun}
 use Rattle.paged_store.proofs.store.PagedStore.fetch_page.Goals as goal
 
 pub returns-in-Some-clause-answer : goal.returns-in-Some-clause-answer
@@ -58,7 +58,7 @@ returns-in_default-expect-clause-fetched c =
     let same = c.expect.ensures.same none in
     fetched_waits s c.send_off.new.self (Page c.args.home)
     (waits_at s.homes s.core c.args.home.0 c.requires (count_by is_none s.core.frames.seats) gone (c.expect.ensures.none none))
-    (rest_moved s c.send_off.new.self c.expect.new.self same c.send_off.ensures.rests.seats c.send_off.ensures.rests.ages c.send_off.ensures.rests.words c.send_off.ensures.rests.reads_stay c.send_off.ensures.rests.homes)
+    (rest_moved s c.send_off.new.self c.expect.new.self same c.send_off.ensures.rests.seats c.send_off.ensures.rests.ages c.send_off.ensures.rests.uses c.send_off.ensures.rests.words c.send_off.ensures.rests.reads_stay c.send_off.ensures.rests.homes)
     (c.send_off.ensures.queue ∙ ap (λ (x : Residence). map meant x.queue.queued ++ departing x.frames.seats (victim_of x.frames.seats)) same)
     (ap (λ (u : Needs). u.needs) c.send_off.ensures.untold) c.send_off.ensures.holders
 
@@ -95,3 +95,5 @@ returns-clause-fetched c =
     (expected_found s.core n c.args.home.0 f.0 gone given others own)
     (ap (λ (ss : Seats). length ss) given.seats ∙ length-set s.core.frames.seats f.0 (Some given.tenant))
     (ages_begun s.core.frames.seats n.frames.seats s.core.queue.queued n.queue.queued f.0 c.args.home.0 others given)
+    (tenants_begun s.core.frames.seats n.frames.seats s.core.queue.queued n.queue.queued f.0 c.args.home.0 others given own)
+    (inr (c.expect.ensures.uses (ap is_some some)))

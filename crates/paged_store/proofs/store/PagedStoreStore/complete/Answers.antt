@@ -88,7 +88,7 @@ returns-in-None-clause-ends g c =
 
 -- the page that has come in, from what the call says
 arrival : (s : PagedStore) (n : Rattle.page_residence.specs.declared.residence.Residence.Residence) (f : Rattle.page_homes.specs.declared.homes.FrameId.FrameId) (h : Rattle.page_homes.specs.declared.homes.Home.Home)
-    → slice_get s.core.queue.queued 0 ≡ Some (Read f h) → Rattle.page_residence.specs.Resident.SeatsStay s.core.frames.seats n.frames.seats → IsRenewed f.0 s.core.frames.seats n.frames.seats → (x : (ws : List ℕ) × (n.frames.words ≡ set s.core.frames.words f.0 ws))
+    → slice_get s.core.queue.queued 0 ≡ Some (Read f h) → Rattle.page_residence.specs.Resident.SeatsStay s.core.frames.seats n.frames.seats → IsRenewed f.0 s.core.frames.seats n.frames.seats s.core.frames.uses n.frames.uses → (x : (ws : List ℕ) × (n.frames.words ≡ set s.core.frames.words f.0 ws))
     → n.queue.queued ≡ Rattle.std.proofs.Common.drop 1 s.core.queue.queued → HasArrived s.homes s.core n f.0 h.0
 arrival s n f h first stays renewed words queue = arrived s.homes s.core n f h first (home_taken s (Read f h) first) stays renewed words.0 words.1 queue
 
@@ -111,11 +111,15 @@ returns-in-Ok-clause-ends g c =
             oldest = a.oldest;
             told = sym told;
             moved = ap is_here at;
+            taken = ap is_taken at;
             homes = a.homes ∙ ap (set (homes_of s) c.in-Some-Read.home.0) (sym at);
+            frames = c.in-Ok.ensures.seats.size;
+            found = a.found;
+            tenants = a.tenants;
             spare = c.in-Ok.ensures.seats.spare ∙ sym (Rattle.std.proofs.Common.add-zero _);
             untold = refl;
             holds = refl;
-            members = ap Rattle.paged_store.specs.Keeping.members_of c.in-Ok.ensures.seats.size;
+            members = ap Rattle.page_contracts.specs.Stores.members_of c.in-Ok.ensures.seats.size;
             came = λ is. a.came;
             went = λ is. absurd (true≢false is);
           };
@@ -168,13 +172,17 @@ returns-in-Ok-depart-clause-ends g c =
             oldest = a.oldest;
             told = sym told;
             moved = ap is_here at;
+            taken = ap is_taken at;
             homes = a.homes ∙ ap (set (homes_of s) c.in-Some-Write.home.0) (sym at);
+            frames = ap (λ (ss : Rattle.page_residence.specs.Resident.Seats). length ss) c.in-Ok-depart.ensures.taken.seats ∙ Rattle.std.proofs.lemmas.List.length-set _ _ _;
+            found = a.found;
+            tenants = λ frame apart. a.tenants frame;
             spare = a.spare;
             untold = refl;
             holds = refl;
-            members = ap Rattle.paged_store.specs.Keeping.members_of (ap (λ (ss : Rattle.page_residence.specs.Resident.Seats). length ss) c.in-Ok-depart.ensures.taken.seats ∙ Rattle.std.proofs.lemmas.List.length-set _ _ _);
+            members = ap Rattle.page_contracts.specs.Stores.members_of (ap (λ (ss : Rattle.page_residence.specs.Resident.Seats). length ss) c.in-Ok-depart.ensures.taken.seats ∙ Rattle.std.proofs.lemmas.List.length-set _ _ _);
             came = λ is. absurd (false≢true is);
-            went = λ is. a.went;
+            went = λ is. (a.went, c.in-Ok-depart.ensures.uses);
           };
       cause = λ e. absurd cc;
       later = c.in-Ok-depart.ensures.later;
@@ -219,7 +227,7 @@ returns-in-Err-clause-ends g c =
       later = e.later;
       read = λ home is. absurd cc;
       wrote = λ is. absurd cc;
-      failed = λ is. stored_same s _ e.unused e.failed (unread s.homes s.core c.arrive.new.self c.in-Some-Read.f c.in-Some-Read.home first e.unused e.words.0 e.words.1 e.failed) refl refl;
+      failed = λ is. stored_same s _ e.unused e.uncounted_use e.failed (unread s.homes s.core c.arrive.new.self c.in-Some-Read.f c.in-Some-Read.home first e.unused e.words.0 e.words.1 e.failed) refl refl;
       uncounted = λ is. (e.uncounted, e.writes);
       size = e.size;
     }

@@ -1,6 +1,6 @@
 use Rattle.std.proofs.Common.{◌≡◌, ◌∙◌, ℕ, List, Some, true, refl, sym, ap, set, arith}
 use Rattle.page_contracts.specs.declared.answers.Found.{Found}
-use Rattle.page_contracts.specs.Stores.{here, free_homes, is_here, place}
+use Rattle.page_contracts.specs.Stores.{here, members_of, free_homes, is_here, place}
 use Rattle.paged_store.specs.declared.store.PagedStore.{PagedStore}
 use Rattle.page_residence.specs.Resident.{found_at, page_in}
 use Rattle.page_residence.proofs.Placing.{found_frame}
@@ -8,7 +8,7 @@ use Rattle.page_residence.proofs.Seating.{frame_has}
 use Rattle.paged_store.proofs.Using.{shown_words, has_words, no_here}
 use Rattle.std.proofs.lemmas.Bool.{false≢true}
 use Rattle.paged_store.specs.StoreMeaning.{homes_of}
-use Rattle.paged_store.proofs.Making.{room_parts, free_count, free_away, kept_made, homes_made, made_below, made_free, made_spare, made_queue, made_members, made_tenants, made_ages}
+use Rattle.paged_store.proofs.Making.{room_parts, free_count, free_away, kept_made, homes_made, made_below, made_free, made_spare, made_queue, made_found, made_frames, made_tenants, made_ages, one_use}
 use Rattle.paged_store.proofs.store.PagedStoreStore.copy.Goals as goal
 
 -- the words of the page that is copied
@@ -46,15 +46,20 @@ returns c =
     let t = c.take-home.ensures in
     let g = c.seat.ensures in
     record {
-      below = made_below s n flags h f words t.below t.free t.taken g.given g.words g.queue;
-      was_free = made_free s n flags h f words t.below t.free t.taken g.given g.words g.queue;
-      homes = homes_made s n flags h f words t.below t.free t.taken g.given g.words g.queue g.idle ∙ ap (set (homes_of s) h) (sym (copied c.args.self.now c.args.from.0 c.in-Some.found (sym c.in-Some.ensures) c.requires.from words c.page-words.ensures.words));
-      spare = made_spare s n flags h f words t.below t.free t.taken g.given g.words g.queue;
-      queued = record { queue = made_queue s n flags h f words t.below t.free t.taken g.given g.words g.queue; untold = refl };
-      holds = refl;
-      members = made_members s n flags h f words t.below t.free t.taken g.given g.words g.queue;
-      tenants = made_tenants s n flags h f words t.below t.free t.taken g.given g.words g.queue g.idle;
-      ages = made_ages s n flags h f words t.below t.free t.taken g.given g.words g.queue g.idle g.renews;
+      made = record {
+        below = made_below s n flags h f words t.below t.free t.taken g.given g.words g.queue;
+        was_free = made_free s n flags h f words t.below t.free t.taken g.given g.words g.queue;
+        homes = homes_made s n flags h f words t.below t.free t.taken g.given g.words g.queue g.idle ∙ ap (set (homes_of s) h) (sym (copied c.args.self.now c.args.from.0 c.in-Some.found (sym c.in-Some.ensures) c.requires.from words c.page-words.ensures.words));
+        frames = made_frames s n flags h f words t.below t.free t.taken g.given g.words g.queue;
+        spare = made_spare s n flags h f words t.below t.free t.taken g.given g.words g.queue;
+        queued = record { queue = made_queue s n flags h f words t.below t.free t.taken g.given g.words g.queue; untold = refl };
+        holds = refl;
+        members = ap members_of (made_frames s n flags h f words t.below t.free t.taken g.given g.words g.queue);
+        found = λ k other. made_found s n flags h f words t.below t.free t.taken g.given g.words g.queue k other;
+        tenants = made_tenants s n flags h f words t.below t.free t.taken g.given g.words g.queue g.idle;
+        ages = made_ages s n flags h f words t.below t.free t.taken g.given g.words g.queue g.idle g.renews;
+      };
+      once = one_use s.core n f g.renews;
     }
 
 pub page-words-requires : goal.page-words-requires

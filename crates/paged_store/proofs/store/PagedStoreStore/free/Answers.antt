@@ -65,5 +65,5 @@ returns c =
     let vac = c.vacate.new.self in
     let taken = still_marked s mid c.args.home.0 c.release_all.ensures.rests.homes c.requires in
     freed_by s mid _ c.args.home.0 c.release_all.ensures.rests c.release_all.ensures.queue c.release_all.ensures.untold c.release_all.ensures.holders
-    (freed_frame mid _ vac.core c.in-Some.f.0 c.args.home.0 c.in-Some.ensures taken c.vacate.ensures.taken c.vacate.ensures.words c.vacate.ensures.queue refl
+    (freed_frame mid _ vac.core c.in-Some.f.0 c.args.home.0 c.in-Some.ensures taken c.vacate.ensures.taken c.vacate.ensures.uses c.vacate.ensures.words c.vacate.ensures.queue refl
     (c.release-2.ensures ∙ ap (λ (flags : List Bool). set flags c.args.home.0 false) c.vacate.ensures.homes) c.vacate.ensures.untold c.vacate.ensures.holders)

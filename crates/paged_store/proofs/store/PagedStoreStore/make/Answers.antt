@@ -1,8 +1,8 @@
 use Rattle.std.proofs.Common.{◌∙◌, refl, sym, ap, subst, set, arith}
 use Rattle.outside.specs.Drums.{IsPage}
-use Rattle.page_contracts.specs.Stores.{here, free_homes}
+use Rattle.page_contracts.specs.Stores.{here, members_of, free_homes}
 use Rattle.paged_store.specs.StoreMeaning.{homes_of}
-use Rattle.paged_store.proofs.Making.{zeros_fit, room_parts, free_count, free_away, kept_made, homes_made, made_below, made_free, made_spare, made_queue, made_members, made_tenants, made_ages}
+use Rattle.paged_store.proofs.Making.{zeros_fit, room_parts, free_count, free_away, kept_made, homes_made, made_below, made_free, made_spare, made_queue, made_found, made_frames, made_tenants, made_ages, one_use}
 use Rattle.paged_store.proofs.store.PagedStoreStore.make.Goals as goal
 
 pub take-home-requires : goal.take-home-requires
@@ -36,13 +36,18 @@ returns c =
     let t = c.take-home.ensures in
     let g = c.seat.ensures in
     record {
-      below = made_below s n flags h f words t.below t.free t.taken g.given g.words g.queue;
-      was_free = made_free s n flags h f words t.below t.free t.taken g.given g.words g.queue;
-      homes = homes_made s n flags h f words t.below t.free t.taken g.given g.words g.queue g.idle ∙ ap (λ ws. set (homes_of s) h (here ws)) c.zero_page-words.ensures;
-      spare = made_spare s n flags h f words t.below t.free t.taken g.given g.words g.queue;
-      queued = record { queue = made_queue s n flags h f words t.below t.free t.taken g.given g.words g.queue; untold = refl };
-      holds = refl;
-      members = made_members s n flags h f words t.below t.free t.taken g.given g.words g.queue;
-      tenants = made_tenants s n flags h f words t.below t.free t.taken g.given g.words g.queue g.idle;
-      ages = made_ages s n flags h f words t.below t.free t.taken g.given g.words g.queue g.idle g.renews;
+      made = record {
+        below = made_below s n flags h f words t.below t.free t.taken g.given g.words g.queue;
+        was_free = made_free s n flags h f words t.below t.free t.taken g.given g.words g.queue;
+        homes = homes_made s n flags h f words t.below t.free t.taken g.given g.words g.queue g.idle ∙ ap (λ ws. set (homes_of s) h (here ws)) c.zero_page-words.ensures;
+        frames = made_frames s n flags h f words t.below t.free t.taken g.given g.words g.queue;
+        spare = made_spare s n flags h f words t.below t.free t.taken g.given g.words g.queue;
+        queued = record { queue = made_queue s n flags h f words t.below t.free t.taken g.given g.words g.queue; untold = refl };
+        holds = refl;
+        members = ap members_of (made_frames s n flags h f words t.below t.free t.taken g.given g.words g.queue);
+        found = λ k other. made_found s n flags h f words t.below t.free t.taken g.given g.words g.queue k other;
+        tenants = made_tenants s n flags h f words t.below t.free t.taken g.given g.words g.queue g.idle;
+        ages = made_ages s n flags h f words t.below t.free t.taken g.given g.words g.queue g.idle g.renews;
+      };
+      once = one_use s.core n f g.renews;
     }

@@ -1,4 +1,7 @@
-use Rattle.std.proofs.Common.{is_some}
+use Rattle.std.proofs.Common.{is_some, false, nat_eq}
+use Rattle.std.specs.Prelude.{count_by}
+use Rattle.std.specs.Option.{option_map_or}
+use Rattle.pager_walk.specs.declared.map_pages.MapPage.{MapPage}
 use Rattle.pager_walk.specs.MapPages.{index_of}
 use Rattle.slot_paged.specs.PagedTables.{beside_of}
 use Rattle.slot_paged.proofs.FilingEnds.{drops_file, told_dropped}
@@ -18,3 +21,6 @@ returns-clause-drops g c =
 
 pub returns-clause-lives : goal.returns-clause-lives
 returns-clause-lives g c = λ i f. is_some (index_of (c.unfile_all.ensures.maps i) f)
+
+pub returns-clause-forks : goal.returns-clause-forks
+returns-clause-forks g c = λ i t. count_by (λ (m : MapPage). option_map_or (λ f. nat_eq f.tty.0 t.0) m.fork false) (c.unfile_all.ensures.maps i)

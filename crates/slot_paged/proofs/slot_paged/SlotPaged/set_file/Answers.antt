@@ -58,3 +58,9 @@ returns-clause-homes g c = c.refile.ensures.homes
 
 pub returns-in_default-clause-homes : goal.returns-in_default-clause-homes
 returns-in_default-clause-homes g c = c.unfile.ensures.homes
+
+pub returns-clause-maps : goal.returns-clause-maps
+returns-clause-maps g c = c.refile.ensures.maps
+
+pub returns-in_default-clause-maps : goal.returns-in_default-clause-maps
+returns-in_default-clause-maps g c = c.unfile.ensures.maps
