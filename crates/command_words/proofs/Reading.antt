@@ -7,6 +7,8 @@ use Rattle.std.proofs.Math.Bool.{or-true}
 use Rattle.std.proofs.lemmas.Bool.{and_parts}
 use Rattle.std.proofs.lemmas.Option.{none-some}
 use Rattle.std.proofs.lemmas.Slice.Eq.{bytes_eq-Decides}
+use Rattle.outside.specs.declared.TheConstants.{MOST_DRUM_PAGES}
+use Rattle.command_words.specs.declared.sizes.TheConstants.{LEAST_DRUM_PAGES, LEAST_FRAMES, MOST_FRAMES, STANDARD_DRUM_PAGES, STANDARD_FRAMES}
 use Rattle.clap.specs.Walk.{Row, first_of, finished, has_row, with_default}
 use Rattle.clap.specs.Words.{fault_of, matches_of, rows_of}
 use Rattle.clap.proofs.WalkLemmas.{first_value-rows}
@@ -98,8 +100,8 @@ single_seed name (v ∷ w ∷ vs) (Generated seed) h = absurd h
 single_seed name (v ∷ w ∷ vs) Script h = absurd h
 
 fine : (name : Text) (settings : List Setting) (words : List Text) (r : Request) → AreBy name settings words r → Fine settings
-fine name settings words r are (a_size frames_size) = single 160 8192 256 (given (a_size frames_size) settings) r.sizes.frames are.frames
-fine name settings words r are (a_size drum_size) = single 256 16384 2048 (given (a_size drum_size) settings) r.sizes.drum are.drum
+fine name settings words r are (a_size frames_size) = single LEAST_FRAMES MOST_FRAMES STANDARD_FRAMES (given (a_size frames_size) settings) r.sizes.frames are.frames
+fine name settings words r are (a_size drum_size) = single LEAST_DRUM_PAGES MOST_DRUM_PAGES STANDARD_DRUM_PAGES (given (a_size drum_size) settings) r.sizes.drum are.drum
 fine name settings words r are a_seed = single_seed name (given a_seed settings) r.events are.events
 
 -- the first word is that of a verb, which takes no seed, or one
@@ -206,8 +208,8 @@ one_run words r q (name, xs, ask) (other, ys, also) =
     let b = clean other ys words q also in
     let same : (what : Given) → given what ys ≡ given what xs = λ what. sym (b.values what) ∙ a.values what in
     let events = one_source name other (given a_seed xs) r.events q.events ask.events (subst (λ v. AsksForEvents other v q.events) (same a_seed) also.events) in
-    let frames = one_number 160 8192 256 (given (a_size frames_size) xs) r.sizes.frames q.sizes.frames ask.frames (subst (λ v. AsksForFrames v q.sizes.frames) (same (a_size frames_size)) also.frames) in
-    let drum = one_number 256 16384 2048 (given (a_size drum_size) xs) r.sizes.drum q.sizes.drum ask.drum (subst (λ v. AsksForDrum v q.sizes.drum) (same (a_size drum_size)) also.drum) in
+    let frames = one_number LEAST_FRAMES MOST_FRAMES STANDARD_FRAMES (given (a_size frames_size) xs) r.sizes.frames q.sizes.frames ask.frames (subst (λ v. AsksForFrames v q.sizes.frames) (same (a_size frames_size)) also.frames) in
+    let drum = one_number LEAST_DRUM_PAGES MOST_DRUM_PAGES STANDARD_DRUM_PAGES (given (a_size drum_size) xs) r.sizes.drum q.sizes.drum ask.drum (subst (λ v. AsksForDrum v q.sizes.drum) (same (a_size drum_size)) also.drum) in
     ap₂ (λ e s. record { events = e; sizes = s }) events (ap₂ (λ f d. record { frames = f; drum = d }) frames drum)
 
 -- the first word of what a verb asks for is the verb's

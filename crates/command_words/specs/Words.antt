@@ -1,5 +1,7 @@
 -- The words of the command: `run`, or `big` with a seed, and options that set the sizes of a run.
 use Rattle.std.specs.Prelude.{◌≡◌, ℕ, ◌≤◌, Bool, true, false, List, [], ◌∷◌, ◌++◌, codes, Option, None, Some, map, filter, flat_map, String, string_bytes}
+use Rattle.outside.specs.declared.TheConstants.{MOST_DRUM_PAGES}
+use Rattle.command_words.specs.declared.sizes.TheConstants.{LEAST_DRUM_PAGES, LEAST_FRAMES, MOST_FRAMES, STANDARD_DRUM_PAGES, STANDARD_FRAMES}
 use Rattle.script_texts.specs.Script.{IsDecimal}
 use Rattle.command_words.specs.declared.request.EventSource.{EventSource}
 use Rattle.command_words.specs.declared.request.EventSource.TheVariants.{Script, Generated}
@@ -77,11 +79,11 @@ AsksFor least most standard (_ ∷ _ ∷ _) n = ⊥
 
 -- page frames of core: 160 to 8,192, and 256 where none are asked for
 abbrev pub AsksForFrames : List Text → ℕ → Type 0
-AsksForFrames = AsksFor 160 8192 256
+AsksForFrames = AsksFor LEAST_FRAMES MOST_FRAMES STANDARD_FRAMES
 
 -- pages of the drum: 256 to 16,384, and 2,048 where none are asked for
 abbrev pub AsksForDrum : List Text → ℕ → Type 0
-AsksForDrum = AsksFor 256 16384 2048
+AsksForDrum = AsksFor LEAST_DRUM_PAGES MOST_DRUM_PAGES STANDARD_DRUM_PAGES
 
 -- which events the first word and the seeds ask for: `run` without a seed those of the script, and `big` with
 -- one seed, of 1 to 9 decimal digits, those of the generated script

@@ -9,5 +9,7 @@ mod verb;
 mod words;
 
 pub use request::{EventSource, Request};
-pub use sizes::Sizes;
+pub use sizes::{
+    LEAST_DRUM_PAGES, LEAST_FRAMES, MOST_FRAMES, STANDARD_DRUM_PAGES, STANDARD_FRAMES, Sizes,
+};
 pub use words::{asked_run, one_asking};

@@ -21,16 +21,25 @@ pub(crate) struct Range {
     pub(crate) standard: u32,
 }
 
+/// The fewest page frames of core that a run may have, the most, and how many it has where no option says.
+pub const LEAST_FRAMES: u32 = 160;
+pub const MOST_FRAMES: u32 = 8192;
+pub const STANDARD_FRAMES: u32 = 256;
+
+/// The fewest pages of the drum, and how many a run has where no option says; the most are `MOST_DRUM_PAGES`.
+pub const LEAST_DRUM_PAGES: u32 = 256;
+pub const STANDARD_DRUM_PAGES: u32 = 2048;
+
 pub(crate) const FRAMES: Range = Range {
-    least: 160,
-    most: 8192,
-    standard: 256,
+    least: LEAST_FRAMES,
+    most: MOST_FRAMES,
+    standard: STANDARD_FRAMES,
 };
 
 pub(crate) const DRUM: Range = Range {
-    least: 256,
+    least: LEAST_DRUM_PAGES,
     most: MOST_DRUM_PAGES,
-    standard: 2048,
+    standard: STANDARD_DRUM_PAGES,
 };
 
 // How many digits a number among the words has at most.

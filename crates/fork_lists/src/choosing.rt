@@ -5,9 +5,8 @@ ghost use Rattle.machine_names.specs.declared.names.ForkName.{ForkName as AForkN
 ghost use Rattle.plain_model.specs.Forks.{ForkMap, IsRunnable};
 ghost use Rattle.job_sched.specs.Schedules.{heads};
 ghost use Rattle.job_sched.specs.Ties.{IsSound};
-ghost use Rattle.job_sched.specs.declared.sched.TheConstants.{QUANTUM};
 ghost use Rattle.job_sched.specs.Units.{IsAlone, IsRow, row_ran};
-ghost use Rattle.machine_names.specs.declared.names.TheConstants.{MOST_FORKS, TERMINALS};
+ghost use Rattle.machine_names.specs.declared.names.TheConstants.{MOST_FORKS, TERMINALS, QUANTUM};
 ghost use Rattle.fork_lists.specs.Seeing.{nobody};
 ghost use Rattle.fork_lists.specs.Ties.{AreTied};
 

@@ -1,10 +1,10 @@
 -- A fork that is alone, and who is the head in a row.
 use Rattle.std.proofs.Common.{◌≡◌, ℕ, zero, suc, ◌+◌, ◌%◌, ◌<◌, ◌≤◌, inl, inr, List, [], ◌∷◌, length, slice_get, Bool, if◌then◌else◌, sym, ◌∙◌, ap, subst, arith}
 use Rattle.std.proofs.lemmas.Bool.{cases_eq}
+use Rattle.machine_names.specs.declared.names.TheConstants.{QUANTUM}
 use Rattle.machine_names.specs.declared.names.ForkName.{ForkName}
 use Rattle.job_sched.specs.declared.member.Member.{Member}
 use Rattle.job_sched.specs.declared.member.Waiter.{Waiter}
-use Rattle.job_sched.specs.declared.sched.TheConstants.{QUANTUM}
 use Rattle.job_sched.specs.Schedules.{Schedule, quantum_ended}
 use Rattle.job_sched.specs.Units.{IsAlone, IsRow, IsTimed, unit_ran, row_ran}
 use Rattle.job_sched.proofs.Turns.{of, below_test}

@@ -4,6 +4,7 @@ use Rattle.std.proofs.lemmas.Bool.{cases_eq}
 use Rattle.std.proofs.lemmas.List.{append-nil, map-append, length-set, get_or-set_same, get_or-set_other}
 use Rattle.std.specs.Option.{is_some}
 use Rattle.std.proofs.Math.ListN.{get_or-eq_default}
+use Rattle.machine_names.specs.declared.names.TheConstants.{QUANTUM}
 use Rattle.frame_order.specs.FrameOrder.{Order, IsOnce, stands_in, without}
 use Rattle.frame_order.proofs.Changes.{order_pushed, stands_before, other_test}
 use Rattle.frame_order.proofs.Orders.{found, without_found, without_absent, not_true, stands_first, stands_behind, not_first as first_apart}
@@ -12,7 +13,6 @@ use Rattle.machine_names.specs.Orders.{same_fork}
 use Rattle.machine_names.specs.Bounds.{IsForkName}
 use Rattle.job_sched.specs.declared.member.Member.{Member}
 use Rattle.job_sched.specs.declared.member.Waiter.{Waiter}
-use Rattle.job_sched.specs.declared.sched.TheConstants.{QUANTUM}
 use Rattle.job_sched.specs.Rows.{Rows, IsRows, row, moved, total}
 use Rattle.job_sched.specs.Schedules.{Schedule, member_of, members, count, is_member, is_waiter, is_ready, is_outside, is_waiting, stands, woken, heads, left}
 use Rattle.job_sched.specs.Places.{spot, name_index, schedule_of, IsPlaceOf, IsPlaced, IsSeated, IsKept, IsThere, is_at}

@@ -2,12 +2,11 @@
 use Rattle.std.proofs.Common.{◌≡◌, ℕ, suc, ◌+◌, ◌*◌, ◌-◌, ◌<◌, ◌≤◌, ◌↔◌, inl, inr, List, [], ◌∷◌, ◌++◌, length, map, Bool, true, false, not, ◌&&◌, ◌||◌, Some, slice_get, refl, sym, ◌∙◌, ap, subst, arith, length-append}
 use Rattle.std.proofs.lemmas.Bool.{cases_eq}
 use Rattle.machine_names.specs.declared.names.ForkName.{ForkName}
-use Rattle.machine_names.specs.declared.names.TheConstants.{TERMINALS, MOST_FORKS}
+use Rattle.machine_names.specs.declared.names.TheConstants.{TERMINALS, MOST_FORKS, QUANTUM}
 use Rattle.machine_names.specs.Orders.{same_fork}
 use Rattle.page_contracts.specs.declared.answers.Need.{Need}
 use Rattle.job_sched.specs.declared.member.Member.{Member}
 use Rattle.job_sched.specs.declared.member.Waiter.{Waiter}
-use Rattle.job_sched.specs.declared.sched.TheConstants.{QUANTUM}
 use Rattle.job_sched.specs.Schedules.{Schedule, stands, heads, admitted, woken, left, waited, arrived, started, stopped, quantum_ended}
 use Rattle.job_sched.specs.Units.{IsTimed, IsRow, row_ran}
 use Rattle.job_sched.specs.Lines.{ahead, ahead_of, is_in_line, line, Nears}

@@ -3,10 +3,10 @@ use Rattle.std.proofs.Common.{◌≡◌, ◌≢◌, ℕ, zero, suc, ◌<◌, ◌
 use Rattle.std.specs.List.{find}
 use Rattle.std.proofs.lemmas.Bool.{cases_eq}
 use Rattle.std.proofs.lemmas.List.{length-replicate}
+use Rattle.machine_names.specs.declared.names.TheConstants.{QUANTUM, TERMINALS, LAST_SERIAL}
 use Rattle.frame_order.specs.FrameOrder.{Order, IsOnce, stands_in}
 use Rattle.frame_order.proofs.Changes.{same_test, other_test}
 use Rattle.job_sched.specs.declared.member.Waiter.{Waiter}
-use Rattle.job_sched.specs.declared.sched.TheConstants.{QUANTUM}
 use Rattle.job_sched.specs.Rows.{Rows, IsRows, row, up_to}
 use Rattle.job_sched.specs.Schedules.{Schedule, empty, member_of, members, has_seat, size}
 use Rattle.job_sched.specs.Units.{IsTimed}
@@ -100,7 +100,7 @@ rows_first n = record {
 
 pub kept_empty : (n set : ℕ) (r : Rows) (numbers : Order) (spots : List Waiter) (places seats : List ℕ)
     → r ≡ record { numbers = n; rows = up_to n ∷ [] ∷ [] ∷ [] ∷ [] } → n ≡ all_places → numbers ≡ record { frames = set; order = up_to set } → set ≤ 63 → 1 ≤ set
-    → length spots ≡ all_places → (m : ℕ) → places ≡ replicate m 0 → m ≡ 4194304 → seats ≡ replicate set 0
+    → length spots ≡ all_places → (m : ℕ) → places ≡ replicate m 0 → m ≡ TERMINALS * (LAST_SERIAL + 1) → seats ≡ replicate set 0
     → IsKept r numbers spots places seats 0
 kept_empty n set r numbers spots places seats rows_are places_are numbers_are few some spots_are m names_are many seats_are =
     subst (λ (r : Rows). IsKept r numbers spots places seats 0) (sym rows_are)

@@ -4,12 +4,12 @@ use Rattle.std.specs.List.{list_any}
 use Rattle.std.proofs.lemmas.List.{append_assoc, append-nil}
 use Rattle.std.proofs.lemmas.Bool.{cases_eq}
 use Rattle.std.proofs.lemmas.List.Elements.{filter-append}
+use Rattle.machine_names.specs.declared.names.TheConstants.{QUANTUM}
 use Rattle.machine_names.specs.declared.names.ForkName.{ForkName}
 use Rattle.page_contracts.specs.declared.answers.Need.{Need}
 use Rattle.machine_names.specs.Orders.{same_fork}
 use Rattle.job_sched.specs.declared.member.Member.{Member}
 use Rattle.job_sched.specs.declared.member.Waiter.{Waiter}
-use Rattle.job_sched.specs.declared.sched.TheConstants.{QUANTUM}
 use Rattle.job_sched.specs.Schedules.{Schedule, is_member, is_ready, is_outside, member_of, seated, stands, admitted, first_seated, one_admitted, sent_out, quantum_ended, waited, arrived, left, heads, ends_wait}
 use Rattle.job_sched.specs.Units.{unit_ran, IsTimed}
 use Rattle.job_sched.specs.Lines.{ahead, line}

@@ -1,9 +1,9 @@
 -- Rows of units, and what they leave.
 use Rattle.std.proofs.Common.{◌≡◌, ℕ, zero, suc, ◌+◌, ◌<◌, inl, inr, List, [], ◌∷◌, length, Bool, true, false, nat_le, if◌then◌else◌, refl, sym, ◌∙◌, ap, subst, arith}
+use Rattle.machine_names.specs.declared.names.TheConstants.{QUANTUM}
 use Rattle.machine_names.specs.declared.names.ForkName.{ForkName}
 use Rattle.job_sched.specs.declared.member.Member.{Member}
 use Rattle.job_sched.specs.declared.member.Waiter.{Waiter}
-use Rattle.job_sched.specs.declared.sched.TheConstants.{QUANTUM}
 use Rattle.job_sched.specs.Schedules.{Schedule, quantum_ended}
 use Rattle.job_sched.specs.Units.{IsTimed, unit_ran, row_ran}
 use Rattle.job_sched.specs.Ties.{AreListed, IsFilled}

@@ -1,8 +1,8 @@
 -- Who stands before whom, and how many units pass until a fork is the head.
 use Rattle.std.specs.Prelude.{◌≡◌, ℕ, suc, ◌+◌, ◌-◌, ◌*◌, ◌≤◌, List, [], ◌∷◌, ◌++◌, map, Bool, true, ◌||◌, if◌then◌else◌}
+use Rattle.machine_names.specs.declared.names.TheConstants.{QUANTUM}
 use Rattle.machine_names.specs.declared.names.ForkName.{ForkName}
 use Rattle.machine_names.specs.Orders.{same_fork}
-use Rattle.job_sched.specs.declared.sched.TheConstants.{QUANTUM}
 use Rattle.job_sched.specs.Schedules.{Schedule, is_ready, is_outside}
 use Rattle.job_sched.specs.Units.{IsTimed}
 

@@ -2,13 +2,12 @@
 use Rattle.std.specs.Prelude.{◌≡◌, ℕ, ◌+◌, ◌*◌, ◌<◌, ◌≤◌, ◌==◌, List, length, map, Option, None, Some, Bool, true, false, slice_index, slice_index_or}
 use Rattle.frame_order.specs.FrameOrder.{Order, IsOrder, stands_in}
 use Rattle.machine_names.specs.declared.names.ForkName.{ForkName}
-use Rattle.machine_names.specs.declared.names.TheConstants.{TERMINALS, MOST_FORKS, LAST_SERIAL}
+use Rattle.machine_names.specs.declared.names.TheConstants.{TERMINALS, MOST_FORKS, LAST_SERIAL, QUANTUM}
 use Rattle.page_contracts.specs.declared.answers.Need.TheVariants.{Frame}
 use Rattle.machine_names.specs.Orders.{same_fork}
 use Rattle.machine_names.specs.Bounds.{IsForkName}
 use Rattle.job_sched.specs.declared.member.Waiter.{Waiter}
 use Rattle.job_sched.specs.declared.rows.Row.TheVariants.{Outside, Ready, Waiting}
-use Rattle.job_sched.specs.declared.sched.TheConstants.{QUANTUM}
 use Rattle.job_sched.specs.Rows.{Rows, IsRows, number, row}
 use Rattle.job_sched.specs.Schedules.{Schedule, member_of}
 

@@ -1,7 +1,7 @@
 -- Units of the head of the ready list, and its quantum (CACM paper, "Scheduling").
 use Rattle.std.specs.Prelude.{◌≡◌, ℕ, zero, suc, ◌+◌, ◌<◌, ◌≤◌, ◌⊎◌, List, [], ◌∷◌, length, nat_le, if◌then◌else◌}
+use Rattle.machine_names.specs.declared.names.TheConstants.{QUANTUM}
 use Rattle.job_sched.specs.declared.member.Member.{Member}
-use Rattle.job_sched.specs.declared.sched.TheConstants.{QUANTUM}
 use Rattle.job_sched.specs.Schedules.{Schedule, quantum_ended}
 
 -- one unit of the head, if there is one, and the end of its quantum where that is used

@@ -2,10 +2,9 @@
 ghost use Rattle.std.specs.Prelude.{◌≡◌, ℕ, ◌+◌, ◌*◌, ◌%◌, ◌<◌, ◌≤◌, ◌↔◌, List, [], Bool, true, false, Some, length, map, slice_get};
 ghost use Rattle.std.specs.Option.{option_map};
 ghost use Rattle.machine_names.specs.declared.names.ForkName.{ForkName as AForkName};
-ghost use Rattle.machine_names.specs.declared.names.TheConstants.{MOST_FORKS, TERMINALS};
+ghost use Rattle.machine_names.specs.declared.names.TheConstants.{MOST_FORKS, TERMINALS, QUANTUM};
 ghost use Rattle.machine_names.specs.Orders.{same_fork};
 ghost use Rattle.page_contracts.specs.declared.answers.Need.{Need as ANeed};
-ghost use Rattle.job_sched.specs.declared.sched.TheConstants.{QUANTUM};
 ghost use Rattle.job_sched.specs.Schedules.{Schedule, arrived, count, heads, size, stands, started, stopped, waited};
 ghost use Rattle.job_sched.specs.Ties.{AreApart, AreListed, IsFilled, IsSound, with_fork, with_outside, without_fork};
 ghost use Rattle.job_sched.specs.Units.{IsAlone, IsRow, IsTimed, row_ran};

@@ -12,4 +12,4 @@ pub use laws::{
     a_fork_in_line_comes_closer, a_fork_more_has_room, a_row_is_of_one_fork,
     lists_follow_the_forks, no_ready_fork_is_passed_over, the_head_stays,
 };
-pub use sched::{QUANTUM, Sched};
+pub use sched::Sched;

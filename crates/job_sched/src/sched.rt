@@ -15,14 +15,11 @@ ghost use Rattle.job_sched.specs.Turns.{Deed, StaysInLine, StaysReady, choices, 
 use crate::member::Waiter;
 use crate::rows::{Row, Rows, rising};
 use frame_order::FrameOrder;
-use machine_names::{ForkName, LAST_SERIAL, MOST_FORKS, TERMINALS, Tty};
+use machine_names::{ForkName, LAST_SERIAL, MOST_FORKS, QUANTUM, TERMINALS, Tty};
 use outside::Memory;
 use page_contracts::Need;
 use std::alloc::Global;
 use std::marker::Model;
-
-/// How many units a quantum has.
-pub const QUANTUM: u32 = 200;
 
 // A place for each fork that may live.
 const PLACES: u32 = TERMINALS as u32 * MOST_FORKS as u32;

@@ -11,6 +11,6 @@ mod text;
 pub use bounds::bounds_hold;
 pub use names::{
     ACCUMULATORS, Access, FILE_PAGES, FileNo, ForkName, Kind, LAST_SERIAL, MOST_FILES, MOST_FORKS,
-    PAGE_ADDRESSES, PageName, Place, SPACE_PAGES, Slot, TERMINALS, Tty,
+    PAGE_ADDRESSES, PageName, Place, QUANTUM, SPACE_PAGES, Slot, TERMINALS, Tty,
 };
 pub use text::{DirName, FileName, Text, TypedText};

@@ -7,6 +7,9 @@ pub const TERMINALS: u8 = 16;
 /// How many forks a job may have.
 pub const MOST_FORKS: u8 = 30;
 
+/// How many units a quantum has: so many a fork runs in a row where another waits for its turn.
+pub const QUANTUM: u32 = 200;
+
 /// The last serial of a terminal's forks. Serials begin at 1 and are never used again.
 pub const LAST_SERIAL: u32 = 262143;
 

@@ -1,7 +1,9 @@
 // Where the words of pages stand: homes on the drum, and frames of core.
 
-/// Homes are numbered below this.
-pub const MOST_HOMES: u32 = 16384;
+use outside::MOST_DRUM_PAGES;
+
+/// Homes are numbered below this: each is a page of the drum.
+pub const MOST_HOMES: u32 = MOST_DRUM_PAGES;
 
 /// The home of a page: where it stands on the drum.
 #[derive(Clone, Copy, PartialEq, Eq)]

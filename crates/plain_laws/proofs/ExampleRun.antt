@@ -55,6 +55,7 @@ use Rattle.plain_laws.proofs.Waiters.{none_told, halts_so, prints_so}
 use Rattle.fork_tree.proofs.CanRun.{named_runs, runs_as}
 use Rattle.std.specs.Option.{option_map_or, option_and_then}
 use Rattle.std.specs.Cmp.Lexicographic.{nat_list_cmp_total}
+use Rattle.machine_names.specs.declared.names.TheConstants.{TERMINALS}
 use Rattle.outside.specs.declared.TheConstants.{PAGE_WORDS}
 use Rattle.word36.specs.Arithmetic.{arithmetic}
 use Rattle.ka10_table.specs.Rows.{row_of, row_among}
@@ -119,7 +120,7 @@ abbrev maps_1 : Maps
 maps_1 = map.insert map.empty first_fork empty_map
 
 abbrev pages_1 : NamedPages
-pages_1 = record { objects = map.empty; maps = maps_1; files = map.empty; page_serials = replicate 16 1; console_serial = 1; limit = 2048 }
+pages_1 = record { objects = map.empty; maps = maps_1; files = map.empty; page_serials = replicate TERMINALS 1; console_serial = 1; limit = 2048 }
 
 abbrev words_1 : List ℕ
 words_1 = slice_set zero_words 64 movei_word
@@ -139,7 +140,7 @@ pages_2 = record {
   objects = map.insert map.empty page zero_words;
   maps = map.insert maps_1 first_fork (slice_set empty_map 0 (Names page full_access));
   files = map.empty;
-  page_serials = slice_set (replicate 16 1) 0 2;
+  page_serials = slice_set (replicate TERMINALS 1) 0 2;
   console_serial = 1;
   limit = 2048;
 }
@@ -154,7 +155,7 @@ abbrev pages_5 : NamedPages
 pages_5 = with_page pages_4 words_3
 
 abbrev at : NamedPages → Jobs → AllForks → PlainState
-at p jobs forks = record { pages = p; files = map.empty; jobs = jobs; forks = forks; fork_serials = slice_set (replicate 16 1) 0 2; clock = 0; trace = false }
+at p jobs forks = record { pages = p; files = map.empty; jobs = jobs; forks = forks; fork_serials = slice_set (replicate TERMINALS 1) 0 2; clock = 0; trace = false }
 
 fork_set : (m : AllForks) (f : ForkName) (v : Fork) → map.get (map.insert m f v) f ≡ Some v
 fork_set m f v = get_set fork_cmp_total m f v

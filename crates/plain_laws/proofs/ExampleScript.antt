@@ -3,6 +3,7 @@ use Rattle.std.proofs.Common.{◌≡◌, ◌≢◌, ◌≤◌, inl, ℕ, List, [
 use Rattle.std.specs.Prelude.{codes, All, nat_le, nat_lt}
 use Rattle.std.specs.List.{list_all}
 use Rattle.std.proofs.lemmas.List.Sums.{AllPass-from_list_all}
+use Rattle.machine_names.specs.declared.names.TheConstants.{TERMINALS}
 use Rattle.word36.specs.Octal.{AreOctalDigits, octal_value}
 use Rattle.script_texts.specs.declared.event.Event.{Event}
 use Rattle.script_texts.specs.declared.event.Event.TheVariants.{Login, Poke, Start, Run}
@@ -44,7 +45,7 @@ gives : (line : List ℕ) (e : Event) → nat_le (length line) 256 ≡ true → 
 gives line e few plain spelled = (short line few plain, inl (e, spelled, refl))
 
 terminal : IsTty (codes "0") first_terminal
-terminal = (decimal_field 2 (codes "0") 0 refl refl refl refl, at_most 1 16 refl)
+terminal = (decimal_field 2 (codes "0") 0 refl refl refl refl, at_most 1 TERMINALS refl)
 
 user : IsDirName (codes "SMITH")
 user = (at_most 1 5 refl, at_most 5 12 refl, AllPass-from_list_all is_name_code (codes "SMITH") refl)

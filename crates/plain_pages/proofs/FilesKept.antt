@@ -144,7 +144,7 @@ module _ {K : Type 0} {file_cmp : K → K → Ordering} (o : IsTotalOrder file_c
 
         -- whole pages stay whole, where the page is there
         pub filed_whole : AreWhole (with_file p f n)
-        filed_whole = still_whole p (with_file p f n) w filed_still (λ g m h. w.entries g m (sym (ap (λ (q : Maps). map.get q g) filed_maps) ∙ h)) old_named
+        filed_whole = still_whole p (with_file p f n) w filed_still (λ g m h. w.entries g m (sym (ap (λ (q : Maps). map.get q g) filed_maps) ∙ h)) (λ g h. sym (ap (λ (q : Maps). map.contains_key q g) filed_maps) ∙ h) old_named
 
         -- and there is no page more
         pub live_filed : live (with_file p f n) ≤ live p
@@ -211,7 +211,7 @@ module _ {K : Type 0} {file_cmp : K → K → Ordering} (o : IsTotalOrder file_c
               neither j k i is a b = grind (arith, nat_tests)
 
       pub without_whole : AreWhole (without_file p file)
-      without_whole = still_whole p (without_file p file) w without_still (λ g m h. w.entries g m (sym (ap (λ (q : Maps). map.get q g) without_maps) ∙ h)) (λ x named. more (uses (without_file p file) x) (uses p x) (omega (arith, uses_without x)) named)
+      without_whole = still_whole p (without_file p file) w without_still (λ g m h. w.entries g m (sym (ap (λ (q : Maps). map.get q g) without_maps) ∙ h)) (λ g h. sym (ap (λ (q : Maps). map.contains_key q g) without_maps) ∙ h) (λ x named. more (uses (without_file p file) x) (uses p x) (omega (arith, uses_without x)) named)
 
       pub live_without : live (without_file p file) ≤ live p
       unfolding without_file

@@ -27,7 +27,7 @@ use Rattle.plain_pages.specs.NewEntries.{IsNewEntry, entry_to, changed}
 use Rattle.plain_pages.specs.WholePages.{AreWhole}
 use Rattle.machine_names.proofs.OrderLemmas.{page_tied, page_cmp_total, page_cmp_apart, fork_cmp_total, fork_cmp_apart}
 use Rattle.plain_pages.proofs.Counts.{has, has_count, count_filtered, weight, total_without, value_counted, Same, page_tells, same_itself}
-use Rattle.plain_pages.proofs.Chains.{entry_map, entry_set, len_set}
+use Rattle.plain_pages.proofs.Chains.{entry_map, entry_set, keys_set, len_set}
 use Rattle.plain_pages.proofs.Whole.{map_uses, tally, uses_are, live_whole}
 use Rattle.plain_pages.proofs.Makings.{names_set, uses_objects}
 
@@ -91,9 +91,9 @@ module _ {K : Type 0} {file_cmp : K → K → Ordering} where
       let s = still_on p q r (still p q k) (still q r l) old in
       record { objects = s.objects; files = l.files ∙ k.files; page_serials = s.page_serials; console_serial = s.console_serial; limit = s.limit }
 
-  -- they are whole, where each map has its entries and none names a page that was not named
-  pub still_whole : (p q : PlainPages file_cmp) → AreWhole p → AreStill p q → ((f : ForkName) (m : Map) → map.get q.maps f ≡ Some m → length m ≡ SPACE_PAGES) → ((n : PageName) → nat_lt 0 (uses q n) ≡ true → nat_lt 0 (uses p n) ≡ true) → AreWhole q
-  still_whole p q w k entries old = record { named = named; words = λ n ws h. there n ws (nat_lt 0 (uses q n)) (sym (k.objects n) ∙ h); entries = entries; old = λ n h. serial n (nat_lt 0 (uses q n)) refl h; owners = ap length k.page_serials ∙ w.owners }
+  -- they are whole, where no fork more has a map, each map has its entries and none names a page that was not named
+  pub still_whole : (p q : PlainPages file_cmp) → AreWhole p → AreStill p q → ((f : ForkName) (m : Map) → map.get q.maps f ≡ Some m → length m ≡ SPACE_PAGES) → ((f : ForkName) → map.contains_key q.maps f ≡ true → map.contains_key p.maps f ≡ true) → ((n : PageName) → nat_lt 0 (uses q n) ≡ true → nat_lt 0 (uses p n) ≡ true) → AreWhole q
+  still_whole p q w k entries keys old = record { named = named; words = λ n ws h. there n ws (nat_lt 0 (uses q n)) (sym (k.objects n) ∙ h); entries = entries; owned = λ f h. w.owned f (keys f h); old = λ n h. serial n (nat_lt 0 (uses q n)) refl h; owners = ap length k.page_serials ∙ w.owners }
     where
       named : (n : PageName) → map.contains_key q.objects n ≡ nat_lt 0 (uses q n)
       named n = ap is_some (k.objects n) ∙ by (nat_lt 0 (uses q n)) refl
@@ -113,7 +113,7 @@ module _ {K : Type 0} {file_cmp : K → K → Ordering} where
           omega (arith, before, same)
       serial n false is h = absurd (let z : true ≡ false = sym h ∙ named n ∙ is in cc z)
 
-  pub kept_whole : (p q : PlainPages file_cmp) → AreWhole p → AreKept p q → ((f : ForkName) (m : Map) → map.get q.maps f ≡ Some m → length m ≡ SPACE_PAGES) → ((n : PageName) → nat_lt 0 (uses q n) ≡ true → nat_lt 0 (uses p n) ≡ true) → AreWhole q
+  pub kept_whole : (p q : PlainPages file_cmp) → AreWhole p → AreKept p q → ((f : ForkName) (m : Map) → map.get q.maps f ≡ Some m → length m ≡ SPACE_PAGES) → ((f : ForkName) → map.contains_key q.maps f ≡ true → map.contains_key p.maps f ≡ true) → ((n : PageName) → nat_lt 0 (uses q n) ≡ true → nat_lt 0 (uses p n) ≡ true) → AreWhole q
   kept_whole p q w k = still_whole p q w (still p q k)
 
 or_zero : (k : ℕ) → (k == 0) ≡ true → nat_lt 0 k ≡ false
@@ -290,7 +290,7 @@ module _ {K : Type 0} {file_cmp : K → K → Ordering} where
 
     -- another entry leaves whole pages whole, where it names no page that is not there
     pub entry_whole : ((n : PageName) → page_in y ≡ Some n → map.contains_key p.objects n ≡ true) → AreWhole (with_entry p s y)
-    entry_whole there = kept_whole p (with_entry p s y) w entry_kept entries old
+    entry_whole there = kept_whole p (with_entry p s y) w entry_kept entries (λ f there. sym (ap (λ (q : Maps). map.contains_key q f) entry_maps ∙ keys_set p.maps s e y h f) ∙ there) old
       where
         m : (n : Map) × (map.get p.maps s.fork ≡ Some n) × (slice_get n s.page ≡ Some e)
         m = entry_map (map.get p.maps s.fork) s.page e h
@@ -375,7 +375,7 @@ module _ {K : Type 0} {file_cmp : K → K → Ordering} where
 
     -- a fork that ends leaves whole pages whole
     pub fork_whole : AreWhole (without_fork p f)
-    fork_whole = kept_whole p (without_fork p f) w fork_kept entries (λ n named. at_least (uses (without_fork p f) n) (uses p n) named (omega (arith, uses_fork n)))
+    fork_whole = kept_whole p (without_fork p f) w fork_kept entries keys (λ n named. at_least (uses (without_fork p f) n) (uses p n) named (omega (arith, uses_fork n)))
       where
         entries : (g : ForkName) (n : Map) → map.get (without_fork p f).maps g ≡ Some n → length n ≡ SPACE_PAGES
         entries g n is = choose (eq_by_cmp fork_cmp g f) (sym (ap (λ (q : Maps). map.get q g) fork_maps ∙ map.get-remove fork_cmp_total p.maps f g) ∙ is)
@@ -383,6 +383,13 @@ module _ {K : Type 0} {file_cmp : K → K → Ordering} where
             choose : (b : Bool) → cond b None (map.get p.maps g) ≡ Some n → length n ≡ SPACE_PAGES
             choose true k = absurd (cc k)
             choose false k = w.entries g n k
+
+        keys : (g : ForkName) → map.contains_key (without_fork p f).maps g ≡ true → map.contains_key p.maps g ≡ true
+        keys g there = choose (eq_by_cmp fork_cmp g f) (sym (ap is_some (ap (λ (q : Maps). map.get q g) fork_maps ∙ map.get-remove fork_cmp_total p.maps f g)) ∙ there)
+          where
+            choose : (b : Bool) → is_some (cond b None (map.get p.maps g)) ≡ true → map.contains_key p.maps g ≡ true
+            choose true k = absurd (cc k)
+            choose false k = k
 
     -- it is a fork less, and no page more
     pub live_fork : live (without_fork p f) + 1 ≤ live p

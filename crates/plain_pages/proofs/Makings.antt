@@ -28,7 +28,7 @@ use Rattle.machine_names.specs.Bounds.{IsOwner}
 use Rattle.plain_pages.specs.WholePages.{AreWhole}
 use Rattle.machine_names.proofs.OrderLemmas.{page_tied, fork_cmp_total, page_cmp_total, file_page_total}
 use Rattle.plain_pages.proofs.Counts.{weight, total_insert, Same, page_tells, same_itself}
-use Rattle.plain_pages.proofs.Chains.{entry_map}
+use Rattle.plain_pages.proofs.Chains.{entry_map, keys_set}
 use Rattle.plain_pages.proofs.Whole.{map_uses, tally, uses_are, sum_set}
 
 -- the names in maps, with another entry in a slot
@@ -177,9 +177,16 @@ module _ {K : Type 0} {file_cmp : K → K → Ordering} (o : IsTotalOrder file_c
             set_in s n.0 (Names new a) n.1 (sym (ap (λ (q : Maps). map.get q f) is) ∙ k)
         by (in_file g) i k = w.entries f m k
 
+    owned_still : (f : ForkName) → map.contains_key after.maps f ≡ true → f.tty.0 < TERMINALS
+    owned_still f h = by at is_spot h
+      where
+        by : (b : Spot K) → IsSpot b → map.contains_key (name_page p b new a).maps f ≡ true → f.tty.0 < TERMINALS
+        by (in_map s) i k = w.owned f (sym (keys_set p.maps s i.0 (Names new a) i.1 f) ∙ k)
+        by (in_file g) i k = w.owned f k
+
     -- a page more where no name is lost
     pub new_whole : ((x : PageName) → lost at x ≡ 0) → AreWhole after
-    new_whole none = record { named = λ x. named_still x (none x); words = words_still; entries = entries_still; old = old_still; owners = owners_still }
+    new_whole none = record { named = λ x. named_still x (none x); words = words_still; entries = entries_still; owned = owned_still; old = old_still; owners = owners_still }
 
     -- a page more, whose spot may lose one page's name, perhaps its last
     pub drop_whole : (old : PageName) → map.contains_key p.objects old ≡ true → ((x : PageName) → x ≢ old → lost at x ≡ 0) → AreWhole (drop_unnamed after old)
@@ -196,6 +203,7 @@ module _ {K : Type 0} {file_cmp : K → K → Ordering} (o : IsTotalOrder file_c
           named = λ x. left x (page_tells x old) ∙ sym (ap (nat_lt 0) (uses_objects after rest x));
           words = λ x ws k. kept_words x ws (page_tells x old) (sym (found x) ∙ k);
           entries = entries_still;
+          owned = owned_still;
           old = λ x k. kept_old x (page_tells x old) (sym (ap is_some (found x)) ∙ k);
           owners = owners_still;
         }
@@ -213,7 +221,7 @@ module _ {K : Type 0} {file_cmp : K → K → Ordering} (o : IsTotalOrder file_c
             kept_old : (x : PageName) → Same x old → is_some (cond (same_page x old) None (map.get after.objects x)) ≡ true → x.serial < page_serial after x.tty
             kept_old x (inl e) k = absurd (cc (e.0, k))
             kept_old x (inr e) k = old_still x (sym (ap (λ c. is_some (cond c None (map.get after.objects x))) e.0) ∙ k)
-        by false h = record { named = λ x. all x (page_tells x old); words = words_still; entries = entries_still; old = old_still; owners = owners_still }
+        by false h = record { named = λ x. all x (page_tells x old); words = words_still; entries = entries_still; owned = owned_still; old = old_still; owners = owners_still }
           where
             here : map.contains_key after.objects old ≡ nat_lt 0 (uses after old)
             here = has_new old ∙ or_true (same_page old new) (map.contains_key p.objects old) there ∙ sym (some_used (uses after old) h)

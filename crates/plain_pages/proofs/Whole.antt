@@ -1,9 +1,10 @@
 -- The plain pages are whole from the start on, and whatever makes a page leaves them whole.
-use Rattle.std.proofs.Common.{◌≡◌, ℕ, zero, suc, ◌+◌, Bool, true, false, cond, ◌||◌, List, [], ◌∷◌, map as each, length, Option, None, Some, refl, sym, ◌∙◌, ap, arith, Ordering, Less, T, is_lt}
+use Rattle.std.proofs.Common.{◌≡◌, ℕ, zero, suc, ◌+◌, ◌<◌, Bool, true, false, cond, ◌||◌, List, [], ◌∷◌, map as each, length, Option, None, Some, refl, sym, ◌∙◌, ap, subst, arith, Ordering, Less, T, is_lt}
 use Rattle.std.specs.Prelude.{nat_lt, is_some, slice_get, slice_set}
 use Rattle.std.specs.List.{sum_by, filter_map, flat_map, list_any, range_with_len}
 use Rattle.std.specs.Option.{option_map_or}
 use Rattle.std.specs.Ordering.{is_eq, eq_by_cmp}
+use Rattle.std.specs.Cmp.{Equal-is}
 use Rattle.std.specs.FinMap as map
 use Rattle.std.proofs.lemmas.List.{length-map, length-replicate}
 use Rattle.std.proofs.lemmas.List.FromFn.{length-map-range_with_len}
@@ -22,9 +23,9 @@ use Rattle.plain_pages.specs.declared.map.NewMap.{NewMap}
 use Rattle.plain_pages.specs.declared.map.NewMap.TheVariants.{Empty as EmptyMap, FollowAll}
 use Rattle.plain_pages.specs.Maps.{full_access}
 use Rattle.plain_pages.specs.NewMaps.{empty_map, following_map, new_map, with_map}
-use Rattle.machine_names.specs.declared.names.TheConstants.{SPACE_PAGES}
+use Rattle.machine_names.specs.declared.names.TheConstants.{SPACE_PAGES, TERMINALS}
 use Rattle.plain_pages.specs.WholePages.{AreWhole}
-use Rattle.machine_names.proofs.OrderLemmas.{page_tied, fork_cmp_total}
+use Rattle.machine_names.proofs.OrderLemmas.{page_tied, fork_cmp_apart, fork_cmp_total}
 use Rattle.plain_pages.proofs.Counts.{has, has_count, different_are, AreApart, count_flat, count_filtered, weight, total_insert, ordered_less, both_first, both_second}
 
 -- keys that rise are apart
@@ -93,6 +94,7 @@ module _ {K : Type 0} (file_cmp : K → K → Ordering) (limit : ℕ) where
     named = λ n. ap is_some (map.get-empty page_cmp n) ∙ ap (nat_lt 0) (sym (no_uses n));
     words = λ n w h. absurd (cc (sym (map.get-empty page_cmp n) ∙ h));
     entries = λ f m h. absurd (cc (sym (map.get-empty fork_cmp f) ∙ h));
+    owned = λ f h. absurd (cc (sym (ap is_some (map.get-empty fork_cmp f)) ∙ h));
     old = λ n h. absurd (cc (sym (ap is_some (map.get-empty page_cmp n)) ∙ h));
     owners = refl;
   }
@@ -120,11 +122,12 @@ module _ {K : Type 0} {file_cmp : K → K → Ordering} (p : PlainPages file_cmp
         let before : option_map_or (map_uses n) (map.get p.maps f) 0 ≡ 0 = ap (λ (o : Option Map). option_map_or (map_uses n) o 0) absent in
         omega (arith, uses_are (with_map p f entries) n, uses_are p n, total_insert fork_cmp_total (map_uses n) p.maps f (new_map entries), before, no_names n entries)
 
-    pub map_whole : AreWhole (with_map p f entries)
-    map_whole = record {
+    pub map_whole : f.tty.0 < TERMINALS → AreWhole (with_map p f entries)
+    map_whole own = record {
       named = λ n. w.named n ∙ ap (nat_lt 0) (sym (uses_mapped n));
       words = w.words;
       entries = λ g m h. by g m (eq_by_cmp fork_cmp g f) (sym (map.get-insert fork_cmp_total p.maps f (new_map entries) g) ∙ h);
+      owned = λ g h. of g (eq_by_cmp fork_cmp g f) refl (sym (ap is_some (map.get-insert fork_cmp_total p.maps f (new_map entries) g)) ∙ h);
       old = w.old;
       owners = w.owners;
     }
@@ -132,3 +135,7 @@ module _ {K : Type 0} {file_cmp : K → K → Ordering} (p : PlainPages file_cmp
         by : (g : ForkName) (m : Map) (b : Bool) → cond b (Some (new_map entries)) (map.get p.maps g) ≡ Some m → length m ≡ SPACE_PAGES
         by g m true k = let is : new_map entries ≡ m = cc k in ap length (sym is) ∙ new_length entries
         by g m false k = w.entries g m k
+
+        of : (g : ForkName) (b : Bool) → eq_by_cmp fork_cmp g f ≡ b → is_some (cond b (Some (new_map entries)) (map.get p.maps g)) ≡ true → g.tty.0 < TERMINALS
+        of g true is h = let same : g ≡ f = fork_cmp_apart g f ((Equal-is (fork_cmp g f)).0 is) in subst (λ (n : ForkName). n.tty.0 < TERMINALS) (sym same) own
+        of g false is h = w.owned g h

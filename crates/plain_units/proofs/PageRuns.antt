@@ -62,7 +62,7 @@ module _ {K : Type 0} {file_cmp : K → K → Ordering} (o : IsTotalOrder file_c
   stored_whole = looked_up AreWhole _ p (page_at p spot) (λ n is. written n (spot_there o p w spot n is)) (λ none. w)
     where
       written : (n : PageName) → map.contains_key p.objects n ≡ true → AreWhole (with_word p offset word n)
-      written n there = record { named = λ x. same x ∙ w.named x ∙ ap (nat_lt 0) (sym (uses_objects p rest x)); words = fits; entries = w.entries; old = λ x h. w.old x (sym (same x) ∙ h); owners = w.owners }
+      written n there = record { named = λ x. same x ∙ w.named x ∙ ap (nat_lt 0) (sym (uses_objects p rest x)); words = fits; entries = w.entries; owned = w.owned; old = λ x h. w.old x (sym (same x) ∙ h); owners = w.owners }
         where
           rest : map.FinMap page_cmp (List ℕ)
           rest = map.insert p.objects n (slice_set (words_of p n) offset word)

@@ -1,5 +1,6 @@
 pub mod Follows
 pub mod Texts
+pub mod RecordLines
 pub mod Limits
 pub mod Entries
 pub mod Script

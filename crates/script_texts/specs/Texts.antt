@@ -156,19 +156,27 @@ abbrev pub runs_of : List Step → List (Step × ℕ)
 runs_of [] = []
 runs_of (s ∷ ss) = put_entry s (runs_of ss)
 
--- the line of so many equal turns, or of an event
+-- so many equal turns, or an event, without the line feed
+abbrev pub run_text : Step → ℕ → List ℕ
+run_text (Outer e) n = line_of e
+run_text (AUnit f) n = codes "U " ++ (name_text f ++ field (decimal n))
+run_text Idle n = codes "I " ++ decimal n
+
+-- their line
 abbrev pub run_line : Step → ℕ → List ℕ
-run_line (Outer e) n = ended (line_of e)
-run_line (AUnit f) n = ended (codes "U " ++ (name_text f ++ field (decimal n)))
-run_line Idle n = ended (codes "I " ++ decimal n)
+run_line s n = ended (run_text s n)
 
 -- the lines of entries
 abbrev pub entries_text : List Step → List ℕ
 entries_text ss = flat_map (λ r. run_line r.0 r.1) (runs_of ss)
 
--- the last line of a record: how often the drum was read and written
+-- how often the drum was read and written
+abbrev pub counts_text : ℕ → ℕ → List ℕ
+counts_text reads writes = codes "E " ++ (decimal reads ++ field (decimal writes))
+
+-- the last line of a record
 abbrev pub counts_line : ℕ → ℕ → List ℕ
-counts_line reads writes = ended (codes "E " ++ (decimal reads ++ field (decimal writes)))
+counts_line reads writes = ended (counts_text reads writes)
 
 -- the record of a run's entries
 abbrev pub record_text : List Step → ℕ → ℕ → List ℕ

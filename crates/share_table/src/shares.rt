@@ -5,13 +5,13 @@ ghost use Rattle.std.specs.FinMap as map;
 ghost use Rattle.share_table.specs.Shares.{AreCounted, joined, last_home, left, one_fewer, one_more, page_at, with_page};
 
 use outside::Memory;
-use page_homes::Home;
+use page_homes::{Home, MOST_HOMES};
 use slab::Slab;
 use std::alloc::Global;
 use std::marker::Model;
 
-/// The numbers of shares are below this.
-pub const MOST_SHARES: u32 = 16384;
+/// The numbers of shares are below this: each share has a page of its own.
+pub const MOST_SHARES: u32 = MOST_HOMES;
 
 // A count that has come to this stays there: how many names there are isn't known any more.
 const LAST_COUNT: u32 = u32::MAX;

@@ -5,9 +5,10 @@ use Rattle.fork_tree.specs.declared.notes.Notes.{Notes}
 use Rattle.fork_tree.proofs.Kept.{none_tree}
 use Rattle.fork_tree.proofs.Reading.{quiet_none}
 use Rattle.std.proofs.lemmas.List.{length-replicate}
+use Rattle.machine_names.specs.declared.names.TheConstants.{TERMINALS}
 use Rattle.fork_tree.proofs.tree.Tree.boot.Goals as goal
 
-ones : (serials : List ℕ) (n : ℕ) → n ≡ 16 → serials ≡ replicate n 1 → serials ≡ first_serials
+ones : (serials : List ℕ) (n : ℕ) → n ≡ TERMINALS → serials ≡ replicate n 1 → serials ≡ first_serials
 unfolding first_serials
 ones serials n is e = e ∙ ap (λ k. replicate k 1) is
 

@@ -1,5 +1,6 @@
 use Rattle.std.proofs.Common.{◌≡◌, refl, suc, ◌-◌, ◌+◌, sym, ◌∙◌, ap, arith}
 use Rattle.std.specs.List.{range_with_len}
+use Rattle.machine_names.specs.declared.names.TheConstants.{TERMINALS}
 use Rattle.plain_model.specs.Trees.{PlainTree, awoken_at, sleepers_awoken}
 use Rattle.fork_tree.proofs.tree.Tree.wake_sleepers.Goals as goal
 
@@ -11,10 +12,10 @@ loop-tty-preserved c =
     let old = c.loop-tty.self in
     let clock = c.args.clock in
     let tty = c.loop-tty.tty in
-    let step : 16 - tty ≡ suc (16 - (tty + 1)) = omega arith in
+    let step : TERMINALS - tty ≡ suc (TERMINALS - (tty + 1)) = omega arith in
     record {
       forks =
-          ap (λ (x : PlainTree). awoken_at clock x.forks (range_with_len (tty + 1) (16 - (tty + 1)))) c.wake_sleepers_of.ensures
+          ap (λ (x : PlainTree). awoken_at clock x.forks (range_with_len (tty + 1) (TERMINALS - (tty + 1)))) c.wake_sleepers_of.ensures
           ∙ sym (ap (λ n. awoken_at clock old.forks (range_with_len tty n)) step)
           ∙ c.loop-tty.invariant.forks;
       serials = ap (λ (x : PlainTree). x.serials) c.wake_sleepers_of.ensures ∙ c.loop-tty.invariant.serials;
@@ -25,7 +26,7 @@ unfolding sleepers_awoken
 returns c =
     let last = c.loop-tty.self in
     let clock = c.args.clock in
-    let over : 16 - c.loop-tty.tty ≡ 0 = omega arith in
-    let all : last.forks ≡ awoken_at clock c.args.self.now.forks (range_with_len 0 16) =
+    let over : TERMINALS - c.loop-tty.tty ≡ 0 = omega arith in
+    let all : last.forks ≡ awoken_at clock c.args.self.now.forks (range_with_len 0 TERMINALS) =
     sym (ap (λ n. awoken_at clock last.forks (range_with_len c.loop-tty.tty n)) over) ∙ c.loop-tty.invariant.forks in
     λ i. record { forks = all i; serials = c.loop-tty.invariant.serials i }

@@ -1,6 +1,7 @@
 use Rattle.std.proofs.Common.{◌≡◌, ◌∙◌, inl, inr, ℕ, ◌+◌, ◌*◌, List, ap, length, replicate, arith}
 use Rattle.std.proofs.lemmas.Bool.{cases_lt}
 use Rattle.std.proofs.lemmas.List.{get_or-replicate, get_or_past, length-replicate}
+use Rattle.machine_names.specs.declared.names.TheConstants.{TERMINALS, MOST_FORKS, SPACE_PAGES}
 use Rattle.known_slots.specs.declared.known_walks.KnownRow.{KnownRow}
 use Rattle.known_slots.specs.WalkTimes.{AreDated, known_since, row_at, unknown_row}
 use Rattle.known_slots.proofs.known_walks.KnownWalks.boot.Goals as goal
@@ -23,9 +24,9 @@ dated rows e = record {
 
 pub invariant_of-result : goal.invariant_of-result
 invariant_of-result c = record {
-  dated = dated c.in_ok-rows.rows.items (rows_unknown 245760 c.in_ok-rows.rows.items c.in_ok-rows.ensures);
-  sized = ap length c.in_ok-rows.ensures ∙ length-replicate 245760 unknown_row;
+  dated = dated c.in_ok-rows.rows.items (rows_unknown (TERMINALS * MOST_FORKS * SPACE_PAGES) c.in_ok-rows.rows.items c.in_ok-rows.ensures);
+  sized = ap length c.in_ok-rows.ensures ∙ length-replicate (TERMINALS * MOST_FORKS * SPACE_PAGES) unknown_row;
 }
 
 pub returns : goal.returns
-returns c space page = ap (known_since 1) (rows_unknown 245760 c.in_ok-rows.rows.items c.in_ok-rows.ensures (space * 512 + page))
+returns c space page = ap (known_since 1) (rows_unknown (TERMINALS * MOST_FORKS * SPACE_PAGES) c.in_ok-rows.rows.items c.in_ok-rows.ensures (space * SPACE_PAGES + page))
