@@ -26,7 +26,7 @@ use Rattle.page_contracts.specs.Pages.{Agrees, PagesMeaning, room_for as frames_
 use Rattle.plain_model.specs.Trees.{free_slot, is_free}
 use Rattle.plain_model.proofs.ForkMaps.{cases_name, get_put, get_put_other, get_gone, get_gone_other, names_same, same_forks, same_itself}
 use Rattle.machine_names.proofs.OrderLemmas.{fork_cmp_total}
-use Rattle.plain_pages.proofs.Whole.{live_whole, map_whole}
+use Rattle.plain_pages.proofs.Whole.{live_named, live_whole, map_named}
 use Rattle.fork_tree.specs.Trees.{AreSlotted, Lives}
 use Rattle.fork_tree.proofs.Listed.{full_listed, listed_most}
 use Rattle.fork_tree.proofs.Ranges.{first_tells}
@@ -69,7 +69,7 @@ module _ (p : NumberedPages) (f : ForkName) (entries : NewMap) (absent : map.get
   pub live_mapped : AreWhole p → live (with_map p f entries) ≡ live p + 1
   live_mapped w =
       let len : map.len (map.insert p.maps f (new_map entries)) ≡ map.len p.maps + 1 = map.len-insert fork_cmp_total p.maps f (new_map entries) ∙ ap (λ (o : Option Map). cond (is_some o) (map.len p.maps) (map.len p.maps + 1)) absent in
-      omega (arith, live_whole (with_map p f entries) (map_whole p w f absent entries), live_whole p w, len)
+      omega (arith, live_named (with_map p f entries) (map_named p w f absent entries), live_whole p w, len)
 
   room_is : AreWhole p → HasRoom (with_map p f entries) f.tty ≡ nat_le (live p + 1) p.limit
   unfolding HasRoom

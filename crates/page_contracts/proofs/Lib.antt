@@ -5,3 +5,4 @@ pub mod Losing
 pub mod Sums
 pub mod Sharing
 pub mod HomeCounts
+pub mod Planning

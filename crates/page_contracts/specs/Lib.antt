@@ -1,3 +1,4 @@
 pub mod DrumWords
 pub mod Stores
 pub mod Pages
+pub mod Changes

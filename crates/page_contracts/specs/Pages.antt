@@ -35,7 +35,7 @@ use Rattle.plain_pages.specs.PlainPages.{PlainPages, NumberedPages, page_serial}
 use Rattle.plain_pages.specs.Maps.{entry_at, maps_on_way}
 use Rattle.plain_pages.specs.Room.{FitsLimit, live, uses}
 use Rattle.plain_pages.specs.References.{Spot, in_map, in_file, Making, blank, copy, Referred, granted, denied, full, reference, next_making, words_of, page_at}
-use Rattle.page_contracts.specs.Stores.{StoreMeaning, HomePlace, IsSound, IsNeeded, Loses, RenewsBoth, RenewsLeft, RenewsNone, RenewsOne, away, content, free, away_of, is_here, is_taken, place, traffic, with_word_in}
+use Rattle.page_contracts.specs.Stores.{StoreMeaning, HomePlace, IsSound, IsNeeded, Loses, RenewsBoth, RenewsLeft, RenewsNone, RenewsOne, StaysStored, away, content, free, away_of, is_here, is_taken, place, traffic, with_word_in}
 use Rattle.machine_names.specs.Bounds.{IsOwner, IsFilePage}
 use Rattle.machine_names.specs.Orders.{FilePage, file_page}
 
@@ -302,6 +302,11 @@ abbrev pub StandsAt : {P : Type 0} → PagesMeaning P → P → Place → ℕ �
 StandsAt means p (Fork s) home = StandsInSpace means p s home
 StandsAt means p (File f page) home = StandsInFile means p (file_page f.0 page) home
 
+-- a home is that of the page that a file names at a place; of a place of a fork's space it says nothing
+abbrev pub IsOfFilePage : {P : Type 0} → PagesMeaning P → P → Place → ℕ → Type 0
+IsOfFilePage means p (Fork s) home = Unit {0}
+IsOfFilePage means p (File f page) home = StandsInFile means p (file_page f.0 page) home
+
 -- the fork in whose map an entry is set to what is made; none where nothing is made, or a file names it
 abbrev pub map_set : {K : Type 0} → Option (Making K) → Option ForkName
 map_set None = None
@@ -470,6 +475,15 @@ StaysPlain means old new = (d : DrumWords) → means.fits old d → means.fits n
 pub record StaysSame {P : Type 0} (means : PagesMeaning P) (old new : P) : Type 0 where
   pub plain : StaysPlain means old new
   pub put : StaysPut means old new
+
+-- all that the clauses speak of is as it was
+pub record StaysAlike {P : Type 0} (means : PagesMeaning P) (old new : P) : Type 0 where
+  pub fits : (d : DrumWords) → means.fits old d ↔ means.fits new d
+  pub plain : means.plain new ≡ means.plain old
+  pub put : StaysPut means old new
+  pub seen : means.seen new ≡ means.seen old
+  pub stored : StaysStored means.store old new
+  pub victim : means.store.victim new ≡ means.store.victim old
 
 -- pages were used, and no more: over the words of each drum they are as they were, and what a touch finds stays; what is queued and held may
 -- have become less

@@ -419,6 +419,16 @@ module _ {S : Type 0} (means : StoreMeaning S) where
     pub queued : StaysQueued old new
     pub holds : means.holds new ≡ means.holds old
 
+  -- what a plan leaves that needs something first: nothing is elsewhere, queued, told or held, and no page was used
+  pub record StaysPlanned (old new : S) : Type 0 where
+    pub homes : means.homes new ≡ means.homes old
+    pub frames : means.frames new ≡ means.frames old
+    pub spare : means.spare new ≡ means.spare old
+    pub members : means.members new ≡ means.members old
+    pub queued : StaysQueued old new
+    pub holds : means.holds new ≡ means.holds old
+    pub ages : RenewsNone (traffic old) (traffic new)
+
   -- these transfers are taken from the queue, and are to be told
   pub record Cancels (these : Transfer → Bool) (old new : S) : Type 0 where
     pub queue : means.queue new ≡ without these (means.queue old)
@@ -515,7 +525,8 @@ module _ {S : Type 0} (means : StoreMeaning S) where
     pub came : is_arrival transfer ≡ true → Renews (home_of transfer) (means.tenant new) (means.age old) (means.age new) (means.uses old) (means.uses new)
     pub went : is_arrival transfer ≡ false → KeepsAges (home_of transfer) (means.tenant old) (means.age old) (means.age new) × (means.uses new ≡ means.uses old)
 
-  -- the oldest transfer ends, where one is queued, and is counted; or the drum fails, which changes nothing but its count of faults
+  -- the oldest transfer ends, where one is queued, and is counted; or the drum fails, which changes nothing but its count of faults; and neither
+  -- count of the drum falls
   pub record Completes {D : Type 0} (faults reads writes pages : D → ℕ) (result : Completed) (old new : S) (drum drum' : D) : Type 0 where
     pub nothing : (result ≡ Nothing) ↔ (means.queue old ≡ [])
     pub same : result ≡ Nothing → (new ≡ old) × (drum' ≡ drum)
@@ -524,6 +535,8 @@ module _ {S : Type 0} (means : StoreMeaning S) where
     pub later : faults drum ≤ faults drum'
     pub read : (home : Home) → result ≡ Done (Page home) → CountsUp (reads drum) (reads drum') × (writes drum' ≡ writes drum)
     pub wrote : result ≡ Done Frame → CountsUp (writes drum) (writes drum') × (reads drum' ≡ reads drum)
+    pub reads_later : reads drum ≤ reads drum'
+    pub writes_later : writes drum ≤ writes drum'
     pub failed : result ≡ DrumFault → StaysStored old new
     pub uncounted : result ≡ DrumFault → (reads drum' ≡ reads drum) × (writes drum' ≡ writes drum)
     pub size : pages drum' ≡ pages drum

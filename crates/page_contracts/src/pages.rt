@@ -1,20 +1,20 @@
 // The pages of all forks.
-ghost use Rattle.std.specs.Prelude.{◌≡◌, ◌⊎◌, ◌≢◌, ◌↔◌, ◌<◌, ◌≤◌, ◌+◌, ◌/◌, ◌%◌, ◌^◌, ℕ, Bool, true, false, not, ◌||◌, ◌&&◌, None, Some, IsSome, IfSome, is_some, length};
+ghost use Rattle.std.specs.Prelude.{◌≡◌, ◌⊎◌, ◌≢◌, ◌↔◌, ◌<◌, ◌≤◌, ◌+◌, ◌/◌, ◌%◌, ◌^◌, ℕ, Bool, true, false, not, ◌||◌, ◌&&◌, None, Some, IsSome, IfSome, length, []};
 ghost use Rattle.machine_names.specs.declared.names.ForkName.{ForkName as AForkName};
 ghost use Rattle.machine_names.specs.declared.names.Tty.{Tty as ATty};
 ghost use Rattle.machine_names.specs.declared.names.TheConstants.{MOST_FILES, SPACE_PAGES, TERMINALS};
 ghost use Rattle.plain_pages.specs.declared.map.MapEntry.{MapEntry as AMapEntry};
 ghost use Rattle.outside.specs.declared.TheConstants.{PAGE_WORDS};
-ghost use Rattle.plain_pages.specs.NewMaps.{with_map};
 ghost use Rattle.machine_names.specs.Bounds.{IsAddress, IsFilePage, IsOwner};
 ghost use Rattle.page_contracts.specs.DrumWords.{DrumWords, Stands};
-ghost use Rattle.plain_pages.specs.References.{in_map, settled, slot_at, word_at, stored, page_at as named_at, without_fork};
+ghost use Rattle.plain_pages.specs.References.{in_map, slot_at, word_at, stored, page_at as named_at};
 ghost use Rattle.page_contracts.specs.Stores.{IsFetched, IsUsed, CanFetch, Completes, Tells, Evicts, CanKeep, Keeps, LetsGo, awaited, meeting, most_held};
 ghost use Rattle.plain_pages.specs.WholePages.{AreWhole};
-ghost use Rattle.page_contracts.specs.Pages.{PagesMeaning, AddsMap, Agrees, AreHoused, AreThere, DropsFile, DropsMap, FilesMade, FilesOne, HasSpace, MayLose, OnlyUses, PeekNeeds, SeenNeeds, SetsEntry, SetsFile, SettlesHome, StandsAt, TouchNeeds, AddsUse, UsesMap, UsesNone, UsesPlace, StaysInCore, TakesMap, TakesFrames, StaysPut, StaysMapped, StaysPlain, StaysSame, IsPlace, IsTouched, IsReady, CanChange, IsNewMap, MapFollowsFork, FollowsFork, FollowsPage, SettlesTo, spot_of, touch_of, peek_of, seen_of, map_away, counted, room_for, can_settle, frames_taken, is_in_core, is_seen, is_entry, is_seen_entry};
-ghost use Rattle.plain_pages.specs.NewEntries.{IsNewEntry, changed};
-ghost use Rattle.plain_pages.specs.FilePages.{filed_by, without_file};
-ghost use Rattle.machine_names.specs.Orders.{file_page, same_fork};
+ghost use Rattle.page_contracts.specs.Pages.{PagesMeaning, Agrees, AreHoused, AreThere, HasSpace, MayLose, OnlyUses, PeekNeeds, SeenNeeds, StandsAt, TouchNeeds, StaysPut, StaysMapped, StaysPlain, StaysSame, IsPlace, IsTouched, IsReady, CanChange, IsNewMap, MapFollowsFork, FollowsFork, FollowsPage, spot_of, touch_of, peek_of, seen_of, map_away, counted, room_for, can_settle, is_in_core, is_seen, is_entry, is_seen_entry, IsOfFilePage, StaysAlike};
+ghost use Rattle.plain_pages.specs.NewEntries.{IsNewEntry};
+ghost use Rattle.machine_names.specs.Orders.{file_page};
+ghost use Rattle.page_contracts.specs.Changes.{EntrySet, FileDropped, FilePageSet, ForkAdded, ForkDropped, PageSettled};
+ghost use Rattle.page_homes.specs.declared.homes.Home.{Home as AHome};
 
 use crate::{Completed, Found, MOST_HOLDERS, Need, Peeked, Room, Seen, SpaceHandle, Touch};
 use machine_names::{FileNo, ForkName, Kind, PageName, Place, Slot, Tty};
@@ -39,6 +39,7 @@ pub trait Pages {
         ensures told { (d : DrumWords) (owner : ATty) → means.fits self.now d → IsOwner owner → result ≡ touch_of (means.plain self.now d) (means.scene self.now) (spot_of at) kind owner }
         ensures copies { (sole : Bool) → result ≡ Touch.Copy sole → kind ≡ Kind.Write }
         ensures needs { TouchNeeds means.store self.now result }
+        ensures away { (home : AHome) → result ≡ Touch.Absent home → IsOfFilePage means self.now at home.0 }
         ensures core { means.flat ≡ true → is_in_core result ≡ true };
 
     /// The word at an offset of the page of a place, which a touch to read or to execute finds Ready.
@@ -55,6 +56,7 @@ pub trait Pages {
         requires offset { offset < PAGE_WORDS }
         ensures told { (d : DrumWords) → means.fits self.now d → result ≡ peek_of (means.plain self.now d) (means.scene self.now) (spot_of at) offset }
         ensures needs { PeekNeeds means.store self.now result }
+        ensures away { (home : AHome) → result ≡ Peeked.Absent home → IsOfFilePage means self.now at home.0 }
         ensures core { means.flat ≡ true → is_seen result ≡ true };
 
     /// The page of a place, whatever the access, with the number of its names in map entries and files, where
@@ -74,6 +76,7 @@ pub trait Pages {
         ensures near { is_seen_entry result ≡ true → means.lives self.now slot.fork ≡ true → (means.scene self.now).map_away slot.fork ≡ None }
         ensures follows { FollowsPage result }
         ensures needs { SeenNeeds means.store self.now result }
+        ensures away { (home : AHome) → result ≡ Seen.Absent home → means.map_home self.now slot.fork ≡ Some home.0 }
         ensures core { means.flat ≡ true → is_seen_entry result ≡ true };
 
     /// Sets an entry that a look at it finds, which is a use of its map. It may be set to a page that a file has, which may be in no frame. A fork that is
@@ -83,16 +86,7 @@ pub trait Pages {
         requires seen { is_entry (means.seen self.old slot) ≡ true }
         requires new { IsNewEntry (means.filed self.old) new }
         requires follows { FollowsFork new }
-        ensures told { (d : DrumWords) → means.fits self.old d → means.fits self.new d × (means.plain self.new d ≡ changed (means.plain self.old d) slot new) }
-        ensures scene { StaysInCore (means.scene self.old) (means.scene self.new) 0 }
-        ensures filed { means.filed self.new ≡ means.filed self.old }
-        ensures loses { MayLose means self.old self.new }
-        ensures uses { UsesMap means slot.fork self.old self.new }
-        ensures sets { SetsEntry means slot self.old self.new }
-        ensures lives { means.lives self.new ≡ means.lives self.old }
-        ensures forks { means.forks_of self.new ≡ means.forks_of self.old }
-        ensures serials { means.serial self.new ≡ means.serial self.old }
-        ensures most { means.most self.new ≡ means.most self.old };
+        ensures { EntrySet means slot new self.old self.new };
 
     /// Makes the zero page or the copy that a touch announces, for an owner. One page is made, in a frame; then, where maps have homes, the map is
     /// used in which an entry is set to it, over each drum that fits. A page that the touch finds ready is used, and then no map.
@@ -101,20 +95,7 @@ pub trait Pages {
         requires ready { can_settle (means.touched self.old at kind) ≡ true }
         requires owner { IsOwner owner }
         requires serial { means.serial self.old owner < 2 ^ 63 }
-        ensures told { (d : DrumWords) → means.fits self.old d → means.fits self.new d × (means.plain self.new d ≡ settled (means.plain self.old d) (spot_of at) kind owner) }
-        ensures settles { SettlesTo (means.touched self.old at kind) (means.touched self.new at kind) }
-        ensures scene { TakesFrames (means.scene self.old) (means.scene self.new) (frames_taken (means.touched self.old at kind)) }
-        ensures count { means.count self.new ≡ means.count self.old + frames_taken (means.touched self.old at kind) }
-        ensures loses { MayLose means self.old self.new }
-        ensures uses { UsesPlace means at kind self.old self.new }
-        ensures homes { SettlesHome means at self.old self.new }
-        ensures filed { FilesMade means at (means.touched self.old at kind) self.old self.new }
-        ensures ready { (home : ℕ) → means.touched self.old at kind ≡ Touch.Ready → StandsAt means self.old at home → IsUsed means.store home self.old self.new }
-        ensures lives { means.lives self.new ≡ means.lives self.old }
-        ensures forks { means.forks_of self.new ≡ means.forks_of self.old }
-        ensures serial { means.serial self.new owner ≤ means.serial self.old owner + 1 }
-        ensures serials { (t : ATty) → t ≢ owner → means.serial self.new t ≡ means.serial self.old t }
-        ensures most { means.most self.new ≡ means.most self.old };
+        ensures { PageSettled means at kind owner self.old self.new };
 
     /// Puts a word at an offset of the page of a place, which a touch to write finds Ready, and which is used. Every touch
     /// answers as before.
@@ -147,6 +128,28 @@ pub trait Pages {
         ensures place { IfSome result (λ found. means.place self.now space page ≡ Some found) }
         ensures ready { (f : AForkName) → means.space self.now f ≡ Some space → IsSome result ↔ CanChange (IsTouched means self.now f page) }
         ensures told { (d : DrumWords) (f : AForkName) → means.fits self.now d → means.space self.now f ≡ Some space → IsSome result → CanChange (IsReady means self.now d f page) };
+
+    /// The word at an address of a space, in a page that was found. This is a look, and no use of the page.
+    fn look(&self, space: SpaceHandle, found: Found, address: u32) -> Word
+        requires space { HasSpace means self.now space }
+        requires address { IsAddress address }
+        requires place { means.place self.now space (address / PAGE_WORDS) ≡ Some found }
+        ensures told { (d : DrumWords) (f : AForkName) → means.fits self.now d → means.space self.now f ≡ Some space
+            → result ≡ word_at (means.plain self.now d) (in_map (slot_at f address)) (address % PAGE_WORDS) };
+
+    /// A use of the page of an address of a space, which was found, as `load` is one.
+    fn used(&mut self, space: SpaceHandle, found: Found, address: u32)
+        requires space { HasSpace means self.old space }
+        requires address { IsAddress address }
+        requires place { means.place self.old space (address / PAGE_WORDS) ≡ Some found }
+        ensures only { OnlyUses means self.old self.new }
+        ensures uses { (home : ℕ) → means.store.found self.old home ≡ Some found → IsUsed means.store home self.old self.new };
+
+    /// Tells that a page of a space was found newly, so that it can be found faster. Nothing changes that any clause speaks of.
+    fn learn(&mut self, space: SpaceHandle, page: u16)
+        requires space { HasSpace means self.old space }
+        requires page { page < SPACE_PAGES }
+        ensures { StaysAlike means self.old self.new };
 
     /// The word at an address of a space, in a page that was found, which is a use of it: the page is the last to have to
     /// leave its frame, and where its departure is queued it is taken from the queue.
@@ -181,31 +184,13 @@ pub trait Pages {
         requires terminal { fork.tty.0 < TERMINALS }
         requires map { IsNewMap (means.lives self.old) fork map }
         requires follows { MapFollowsFork map }
-        ensures told { (d : DrumWords) → means.fits self.old d → means.fits self.new d × (means.plain self.new d ≡ with_map (means.plain self.old d) fork map) }
-        ensures scene { TakesMap (means.scene self.old) (means.scene self.new) fork }
-        ensures loses { MayLose means self.old self.new }
-        ensures uses { AddsUse means fork self.old self.new }
-        ensures adds { AddsMap means fork self.old self.new }
-        ensures lives { (f : AForkName) → means.lives self.new f ≡ (same_fork f fork || means.lives self.old f) }
-        ensures forks { means.forks_of self.new fork.tty ≡ means.forks_of self.old fork.tty + 1 }
-        ensures others { (t : ATty) → t ≢ fork.tty → means.forks_of self.new t ≡ means.forks_of self.old t }
-        ensures serials { means.serial self.new ≡ means.serial self.old }
-        ensures most { means.most self.new ≡ means.most self.old };
+        ensures { ForkAdded means fork map self.old self.new };
 
     /// Drops a fork with its map, which is in a frame. Pages that lose their last name are dropped.
     fn drop_fork(&mut self, fork: ForkName)
         requires lives { means.lives self.old fork ≡ true }
         requires seen { (means.scene self.old).map_away fork ≡ None }
-        ensures told { (d : DrumWords) → means.fits self.old d → means.fits self.new d × (means.plain self.new d ≡ without_fork (means.plain self.old d) fork) }
-        ensures scene { StaysInCore (means.scene self.old) (means.scene self.new) 0 }
-        ensures loses { MayLose means self.old self.new }
-        ensures uses { UsesNone means self.old self.new }
-        ensures drops { DropsMap means fork self.old self.new }
-        ensures lives { (f : AForkName) → means.lives self.new f ≡ (not (same_fork f fork) && means.lives self.old f) }
-        ensures forks { means.forks_of self.new fork.tty + 1 ≡ means.forks_of self.old fork.tty }
-        ensures others { (t : ATty) → t ≢ fork.tty → means.forks_of self.new t ≡ means.forks_of self.old t }
-        ensures serials { means.serial self.new ≡ means.serial self.old }
-        ensures most { means.most self.new ≡ means.most self.old };
+        ensures { ForkDropped means fork self.old self.new };
 
     /// The page that a file names at one of its pages; it may be in no frame. None exactly where the file has no such page.
     fn page_of(&self, file: FileNo, page: u16) -> Option<PageName>
@@ -218,29 +203,12 @@ pub trait Pages {
         requires page { IsFilePage file page }
         requires place { IfSome from (λ s. IsPlace (means.lives self.old) (Place.Fork s)) }
         requires ready { IfSome from (λ s. means.touched self.old (Place.Fork s) Kind.Read ≡ Touch.Ready) }
-        ensures told { (d : DrumWords) → means.fits self.old d → means.fits self.new d × (means.plain self.new d ≡ filed_by (means.plain self.old d) (file_page file.0 page) from) }
-        ensures scene { StaysInCore (means.scene self.old) (means.scene self.new) 0 }
-        ensures filed { FilesOne means (file_page file.0 page) (is_some from) self.old self.new }
-        ensures sets { SetsFile means (file_page file.0 page) self.old self.new }
-        ensures loses { MayLose means self.old self.new }
-        ensures uses { UsesNone means self.old self.new }
-        ensures lives { means.lives self.new ≡ means.lives self.old }
-        ensures forks { means.forks_of self.new ≡ means.forks_of self.old }
-        ensures serials { means.serial self.new ≡ means.serial self.old }
-        ensures most { means.most self.new ≡ means.most self.old };
+        ensures { FilePageSet means file page from self.old self.new };
 
     /// Drops all pages of a file. Those that lose their last name are dropped.
     fn drop_file(&mut self, file: FileNo)
         requires { file.0 < MOST_FILES }
-        ensures told { (d : DrumWords) → means.fits self.old d → means.fits self.new d × (means.plain self.new d ≡ without_file (means.plain self.old d) file.0) }
-        ensures scene { StaysInCore (means.scene self.old) (means.scene self.new) 0 }
-        ensures loses { MayLose means self.old self.new }
-        ensures uses { UsesNone means self.old self.new }
-        ensures drops { DropsFile means file.0 self.old self.new }
-        ensures lives { means.lives self.new ≡ means.lives self.old }
-        ensures forks { means.forks_of self.new ≡ means.forks_of self.old }
-        ensures serials { means.serial self.new ≡ means.serial self.old }
-        ensures most { means.most self.new ≡ means.most self.old };
+        ensures { FileDropped means file self.old self.new };
 
     /// How many pages and forks there are: the pages that some map entry or file names, and the forks.
     fn live(&self) -> u32
@@ -272,6 +240,10 @@ pub trait Pages {
         ensures failed { result ≡ Completed.DrumFault → StaysSame means self.old self.new }
         ensures told { (d : DrumWords) → Stands means.flat (D.held drum.old) d → means.fits self.old d → (result ≡ Completed.DrumFault → ⊥)
             → (e : DrumWords) × Stands means.flat (D.held drum.new) e × means.fits self.new e × (means.plain self.new e ≡ means.plain self.old d) };
+
+    /// Whether a transfer is queued.
+    fn is_moving(&self) -> bool
+        ensures { (result ≡ false) ↔ (means.store.queue self.now ≡ []) };
 
     /// What a transfer would have told that was taken from the queue, as a store does.
     fn cancelled(&mut self) -> Option<Need>

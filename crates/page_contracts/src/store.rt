@@ -1,5 +1,5 @@
 // Pages under homes.
-ghost use Rattle.std.specs.Prelude.{◌≡◌, ◌<◌, ◌≤◌, ◌+◌, ℕ, true, Some, length, map, slice_set};
+ghost use Rattle.std.specs.Prelude.{◌≡◌, ◌↔◌, ◌<◌, ◌≤◌, ◌+◌, ℕ, [], true, false, Some, length, map, slice_set};
 ghost use Rattle.outside.specs.declared.TheConstants.{PAGE_WORDS};
 ghost use Rattle.page_contracts.specs.DrumWords.{DrumWords, Stands};
 ghost use Rattle.machine_names.specs.PageWords.{zero_words};
@@ -81,6 +81,18 @@ pub trait Store {
         requires { is_taken (place (means.homes self.now) home.0) ≡ true }
         ensures { result ≡ means.found self.now home.0 };
 
+    /// The word at an offset of a page that was found. This is a look, and no use of the page.
+    fn look(&self, found: Found, at: u16) -> Word
+        requires found { HasPage means self.now found }
+        requires at { at < PAGE_WORDS }
+        ensures { (home : ℕ) → means.found self.now home ≡ Some found → word_in (place (means.homes self.now) home) at ≡ Some result };
+
+    /// A use of a page that was found, as `used` is.
+    fn use_found(&mut self, found: Found)
+        requires { HasPage means self.old found }
+        ensures homes { means.homes self.new ≡ means.homes self.old }
+        ensures used { (home : ℕ) → means.found self.old home ≡ Some found → IsUsed means home self.old self.new };
+
     /// The word at an offset of a page that was found, which is a use of it, as `used` is.
     fn load(&mut self, found: Found, at: u16) -> Word
         requires found { HasPage means self.old found }
@@ -134,6 +146,10 @@ pub trait Store {
         ensures taken { map is_taken (means.homes self.new) ≡ map is_taken (means.homes self.old) }
         ensures content { (d : DrumWords) → Stands means.flat (D.held drum.old) d → FitsHomes (means.homes self.old) d → (result ≡ Completed.DrumFault → ⊥)
             → (e : DrumWords) × Stands means.flat (D.held drum.new) e × FitsHomes (means.homes self.new) e × (content (means.homes self.new) e ≡ content (means.homes self.old) d) };
+
+    /// Whether a transfer is queued.
+    fn is_moving(&self) -> bool
+        ensures { (result ≡ false) ↔ (means.queue self.now ≡ []) };
 
     /// What a transfer would have told that was taken from the queue, each need once. None exactly where none is
     /// left to tell.

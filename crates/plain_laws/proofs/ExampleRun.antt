@@ -1,5 +1,5 @@
 -- The run of the example, entry by entry.
-use Rattle.std.proofs.Common.{◌≡◌, ℕ, ◌+◌, ◌%◌, List, [], ◌∷◌, ◌++◌, Bool, true, false, cond, Option, None, Some, refl, sym, ◌∙◌, ap, subst, inl, inr, arith}
+use Rattle.std.proofs.Common.{◌≡◌, ℕ, ◌+◌, ◌%◌, List, [], ◌∷◌, ◌++◌, Bool, true, false, cond, Option, None, Some, refl, sym, ◌∙◌, ap, subst, inl, inr, arith, lit<}
 use Rattle.std.specs.Prelude.{if◌then◌else◌, is_some, replicate, codes, slice_get, slice_set, slice_index}
 use Rattle.std.specs.declared.cmp.Ordering.{Ordering}
 use Rattle.std.specs.Ordering.{nat_cmp, eq_by_cmp, is_eq}
@@ -172,7 +172,7 @@ first_len {X} {K} {R} o k v =
 
 whole_1 : AreWhole pages_1
 unfolding opening_pages first_serials
-whole_1 = map_whole (opening_pages name_cmp 2048) (opening_whole name_cmp 2048) first_fork (map.get-empty fork_cmp first_fork) EmptyMap
+whole_1 = map_whole (opening_pages name_cmp 2048) (opening_whole name_cmp 2048) first_fork (map.get-empty fork_cmp first_fork) EmptyMap (lit< tt)
 
 live_1 : live pages_1 ≡ 1
 live_1 = live_whole pages_1 whole_1 ∙ ap (λ n. n + map.len maps_1) (map.len-empty page_cmp (List ℕ)) ∙ ap (λ n. 0 + n) (first_len fork_cmp_total first_fork empty_map)

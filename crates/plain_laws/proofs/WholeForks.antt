@@ -548,7 +548,7 @@ module _ (s : PlainState) (w : IsWholeMachine s) where
   -- a fork call leaves the state whole
   pub fork_called_whole : (name : ForkName) (f : Fork) → map.get s.forks name ≡ Some f → IsForkName name → (number : ℕ) → IsWholeMachine (fork_called s f number)
   unfolding parts_behind
-  fork_called_whole name f there fits number = by (fork_came s f number).end (call_keeps nat_list_cmp_total a own s.pages (sound s w) (next_absent s w f.name.tty) number) (call_given s w f.name f.body.regs terminal lives q number)
+  fork_called_whole name f there fits number = by (fork_came s f number).end (call_keeps nat_list_cmp_total a terminal s.pages (sound s w) (next_absent s w f.name.tty) number) (call_given s w f.name f.body.regs terminal lives q number)
     where
       a : Asked
       a = record { who = f.name; regs = f.body.regs; tree = tree_of s }

@@ -221,7 +221,7 @@ module _ (s : PlainState) (w : IsWholeMachine s) where
       at u = map.get-insert nat_cmp_total s.jobs t.0 (new_job user f) u
 
       sound : AreSound (with_map s.pages f EmptyMap)
-      sound = record { whole = map_whole s.pages w.pages f (next_absent s w t) EmptyMap; room = has_room (with_map s.pages f EmptyMap) t room }
+      sound = record { whole = map_whole s.pages w.pages f (next_absent s w t) EmptyMap terminal; room = has_room (with_map s.pages f EmptyMap) t room }
 
       home : map.contains_key jobs t.0 ≡ true
       home = ap is_some (at t.0) ∙ ap (λ b. is_some (cond b (Some (new_job user f)) (map.get s.jobs t.0))) (let e = eq_by_cmp_equiv nat_cmp_total in e.refl t.0)

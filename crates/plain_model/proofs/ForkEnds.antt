@@ -1,5 +1,5 @@
 -- How the turn of a fork call ends: whom its change names, and what it has made of the pages.
-use Rattle.std.proofs.Common.{◌≡◌, ℕ, Bool, true, false, cond, List, [], None, Some, Result, Ok, Err, refl, sym, ◌∙◌, ap, Ordering}
+use Rattle.std.proofs.Common.{◌≡◌, ℕ, Bool, true, false, cond, List, [], None, Some, Result, Ok, Err, refl, sym, ◌∙◌, ap, Ordering, inl}
 use Rattle.std.specs.Prelude.{nat_lt, replicate, ◌==◌}
 use Rattle.std.specs.Option.{option_map}
 use Rattle.std.specs.Cmp.{IsTotalOrder}
@@ -22,7 +22,7 @@ use Rattle.script_texts.specs.declared.status.ForkStatus.TheVariants.{Run as Run
 use Rattle.plain_pages.specs.PlainPages.{PlainPages}
 use Rattle.plain_pages.specs.Room.{HasRoom}
 use Rattle.plain_pages.specs.NewMaps.{with_map}
-use Rattle.machine_names.specs.Bounds.{IsOwner}
+use Rattle.machine_names.specs.Bounds.{IsTerminal}
 use Rattle.plain_units.specs.Steps.{Steps, Planned, done, stopped, call, begun}
 use Rattle.plain_units.specs.Deeds.{in_ac}
 use Rattle.plain_model.specs.Inferiors.{is_inferior}
@@ -188,12 +188,12 @@ module _ {K : Type 0} {file_cmp : K → K → Ordering} (a : Asked) (p : PlainPa
       cond_both (HALTF == number) _ _ Ends (λ is. over p Halts tt) (λ n11. over p (Trap ILLEGAL_INSTRUCTION) tt)))))))))))
 
 -- over sound pages the steps of a turn keep them so
-module _ {K : Type 0} {file_cmp : K → K → Ordering} (o : IsTotalOrder file_cmp) (a : Asked) (own : IsOwner a.who.tty) (p : PlainPages file_cmp) (w : AreSound p) (absent : map.get p.maps (next_name a.tree a.who.tty) ≡ None) where
+module _ {K : Type 0} {file_cmp : K → K → Ordering} (o : IsTotalOrder file_cmp) (a : Asked) (own : IsTerminal a.who.tty) (p : PlainPages file_cmp) (w : AreSound p) (absent : map.get p.maps (next_name a.tree a.who.tty) ≡ None) where
   keeping : (q : PlainPages file_cmp) → AreSound q → Leads a p (λ x y. Keeps x y) q
-  keeping q sound = record { itself = kept_itself q sound; runs = λ steps. run_kept o q a.who own steps (begun q a.regs.ac) (kept_itself q sound) }
+  keeping q sound = record { itself = kept_itself q sound; runs = λ steps. run_kept o q a.who (inl own) steps (begun q a.regs.ac) (kept_itself q sound) }
 
   sound_on : HasRoom (mapped a p) a.who.tty ≡ true → AreSound (mapped a p)
-  sound_on room = record { whole = map_whole p w.whole (next_name a.tree a.who.tty) absent (map_wanted a); room = has_room (mapped a p) a.who.tty room }
+  sound_on room = record { whole = map_whole p w.whole (next_name a.tree a.who.tty) absent (map_wanted a) own; room = has_room (mapped a p) a.who.tty room }
 
   pub call_keeps : (number : ℕ) → FitsEnd a p (λ x y. Keeps x y) (turn_on no_files p (fork_call number a)).pages (turn_on no_files p (fork_call number a)).end
   call_keeps number = call_ends a p (λ x y. Keeps x y) (keeping p w) (λ room. keeping (mapped a p) (sound_on room)) number

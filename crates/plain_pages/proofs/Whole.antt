@@ -63,13 +63,16 @@ module _ {K : Type 0} {file_cmp : K → K → Ordering} where
       sum_by-append (tally n) (flat_map (filter_map page_in) (map.values p.maps)) (map.values p.files)
       ∙ ap (λ k. k + sum_by (tally n) (map.values p.files)) (count_flat (same_page n) (filter_map page_in) (map.values p.maps) ∙ ap (λ (w : Map → ℕ). sum_by w (map.values p.maps)) (λ i m. count_filtered (same_page n) page_in m i))
 
-  -- on whole pages the objects are counted
-  pub live_whole : (p : PlainPages file_cmp) → AreWhole p → live p ≡ map.len p.objects + map.len p.maps
+  -- where the objects are the pages that are named, they are counted
+  pub live_named : (p : PlainPages file_cmp) → ((n : PageName) → map.contains_key p.objects n ≡ nat_lt 0 (uses p n)) → live p ≡ map.len p.objects + map.len p.maps
   unfolding live uses
-  live_whole p w = ap (λ k. k + map.len p.maps) (different_are (map.keys p.objects) (names p) (sorted_apart (map.entries p.objects) (map.entries_sorted p.objects)) same ∙ length-map (map.entries p.objects) (λ e. e.0) ∙ sym (map.len-entries p.objects))
+  live_named p named = ap (λ k. k + map.len p.maps) (different_are (map.keys p.objects) (names p) (sorted_apart (map.entries p.objects) (map.entries_sorted p.objects)) same ∙ length-map (map.entries p.objects) (λ e. e.0) ∙ sym (map.len-entries p.objects))
     where
       same : (n : PageName) → has n (names p) ≡ has n (map.keys p.objects)
-      same n = has_count n (names p) ∙ sym (w.named n) ∙ map.contains_key-keys p.objects n ∙ ap (λ (t : PageName → Bool). list_any t (map.keys p.objects)) (λ i m. page_tied n m i)
+      same n = has_count n (names p) ∙ sym (named n) ∙ map.contains_key-keys p.objects n ∙ ap (λ (t : PageName → Bool). list_any t (map.keys p.objects)) (λ i m. page_tied n m i)
+
+  pub live_whole : (p : PlainPages file_cmp) → AreWhole p → live p ≡ map.len p.objects + map.len p.maps
+  live_whole p w = live_named p w.named
 
   -- a page that is not yet made has no use
   pub unmade : (p : PlainPages file_cmp) → AreWhole p → (owner : Tty) → uses p (next_page p owner) ≡ 0
@@ -122,9 +125,12 @@ module _ {K : Type 0} {file_cmp : K → K → Ordering} (p : PlainPages file_cmp
         let before : option_map_or (map_uses n) (map.get p.maps f) 0 ≡ 0 = ap (λ (o : Option Map). option_map_or (map_uses n) o 0) absent in
         omega (arith, uses_are (with_map p f entries) n, uses_are p n, total_insert fork_cmp_total (map_uses n) p.maps f (new_map entries), before, no_names n entries)
 
+    pub map_named : (n : PageName) → map.contains_key p.objects n ≡ nat_lt 0 (uses (with_map p f entries) n)
+    map_named n = w.named n ∙ ap (nat_lt 0) (sym (uses_mapped n))
+
     pub map_whole : f.tty.0 < TERMINALS → AreWhole (with_map p f entries)
     map_whole own = record {
-      named = λ n. w.named n ∙ ap (nat_lt 0) (sym (uses_mapped n));
+      named = map_named;
       words = w.words;
       entries = λ g m h. by g m (eq_by_cmp fork_cmp g f) (sym (map.get-insert fork_cmp_total p.maps f (new_map entries) g) ∙ h);
       owned = λ g h. of g (eq_by_cmp fork_cmp g f) refl (sym (ap is_some (map.get-insert fork_cmp_total p.maps f (new_map entries) g)) ∙ h);

@@ -1,5 +1,5 @@
 -- The lines of a record as data: what each says, and which entries it tells.
-use Rattle.std.specs.Prelude.{ℕ, List, [], ◌∷◌, ◌++◌, codes, decimal, map, replicate}
+use Rattle.std.specs.Prelude.{ℕ, List, [], ◌++◌, codes, decimal, map, replicate}
 use Rattle.std.specs.List.{flat_map}
 use Rattle.script_texts.specs.declared.event.Step.{Step}
 use Rattle.script_texts.specs.Texts.{counts_text, ended, run_text}
