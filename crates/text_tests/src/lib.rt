@@ -26,8 +26,6 @@ mod made;
 #[cfg(test)]
 mod pieces;
 #[cfg(test)]
-mod runs;
-#[cfg(test)]
 mod same;
 #[cfg(test)]
 mod sinks;
