@@ -20,8 +20,6 @@ mod generated;
 #[cfg(test)]
 mod laws;
 #[cfg(test)]
-mod lines;
-#[cfg(test)]
 mod made;
 #[cfg(test)]
 mod pieces;
