@@ -1,6 +1,6 @@
 use Rattle.std.proofs.Common.{List, length, map, ap, arith}
 use Rattle.page_contracts.specs.Stores.{HomePlace, is_taken}
-use Rattle.table_tests.proofs.maps.chains_over_maps_in_pages.Goals as goal
+use Rattle.map_tests.proofs.chains.chains_over_maps_in_pages.Goals as goal
 
 pub come_and_go-requires : goal.come_and_go-requires
 come_and_go-requires g c =

@@ -4,7 +4,7 @@ ghost use Rattle.std.specs.Prelude.{◌≡◌};
 use crate::made::made;
 use crate::same::same;
 use job_sched::Sched;
-use machine_names::{ForkName, Tty};
+use machine_names::{ForkName, QUANTUM, Tty};
 use page_contracts::Need;
 use page_homes::Home;
 use std::process::Abort;
