@@ -22,7 +22,7 @@ use Rattle.page_contracts.specs.declared.answers.Touch.{Touch}
 use Rattle.page_contracts.specs.declared.answers.Touch.TheVariants.{Ready, Zero, Copy, Absent, NeedFrame, Denied, Full}
 use Rattle.page_contracts.specs.DrumWords.{DrumWords}
 use Rattle.page_contracts.specs.Changes.{PageSettled}
-use Rattle.page_contracts.specs.Pages.{FilesMade, PagesMeaning, SettlesHome, SettlesTo, StandsAt, StandsInFile, TakesFrames, UsesPlace, MayLose, map_set, spot_of, IsPlace, absent_or, framed, can_settle, frames_taken}
+use Rattle.page_contracts.specs.Pages.{FilesMade, PagesMeaning, SettlesTo, TakesFrames, map_set, IsPlace, absent_or, framed, can_settle, frames_taken}
 use Rattle.page_contracts.specs.Stores.{StoreMeaning, HomePlace, IsSound, IsUsed, Loses, RenewsOne, FitsHomes, free, here, place, is_here, away_at, away_home, traffic}
 use Rattle.page_contracts.proofs.Losing.{loses_made, loses_used, made_one, used_one}
 use Rattle.plain_pages.specs.PlainPages.{NumberedPages}
@@ -33,7 +33,7 @@ use Rattle.flat_pages.specs.declared.map_tables.MapTables.{MapTables}
 use Rattle.flat_pages.specs.HeldMaps.{index_of, living_of, name_at, name_of, nobody, maps_held}
 use Rattle.flat_pages.specs.Serials.{serial_of, with_next}
 use Rattle.flat_pages.specs.SlotTables.{Tables, plain_of, files_held, share_of, AreTables, AreSized}
-use Rattle.flat_pages.specs.SlotTouches.{home_named, scene_of, has_room, touch_filed, touch_of_place}
+use Rattle.flat_pages.specs.SlotTouches.{scene_of, has_room, touch_filed, touch_of_place}
 use Rattle.flat_pages.specs.SlotMeaning.{filed_in, slots_meaning}
 use Rattle.flat_pages.specs.TableSteps.{tables_of, next_name, home_filed}
 use Rattle.flat_pages.specs.FileSteps.{FilesHome, SettlesFiled, UsesFiled}
@@ -47,7 +47,6 @@ use Rattle.flat_pages.proofs.HeldEntries.{total_le}
 use Rattle.flat_pages.proofs.Settled.{ArePages, takes_frames, unused}
 use Rattle.flat_pages.proofs.Settling.{content_other, content_set, fits_set, sized_of, terminals_next, console_next}
 use Rattle.flat_pages.proofs.Told.{entry_still, told_made}
-use Rattle.flat_pages.proofs.Touching.{home_is}
 use Rattle.flat_pages.proofs.NextSerials.{next_own, next_other}
 use Rattle.flat_pages.proofs.Rooming.{here_when}
 use Rattle.flat_pages.proofs.Using.{home_filed_at, made_here, no_map_home, stands_filed, used_here}

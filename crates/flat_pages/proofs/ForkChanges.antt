@@ -6,7 +6,6 @@ use Rattle.machine_names.specs.declared.names.TheConstants.{MOST_FORKS, TERMINAL
 use Rattle.plain_pages.specs.declared.map.NewMap.{NewMap}
 use Rattle.plain_pages.specs.NewMaps.{new_map}
 use Rattle.page_contracts.specs.Changes.{ForkAdded, ForkDropped}
-use Rattle.page_contracts.specs.DrumWords.{DrumWords}
 use Rattle.page_contracts.specs.Pages.{PagesMeaning, StaysInCore, TakesMap}
 use Rattle.page_contracts.specs.Stores.{StoreMeaning, FitsHomes, HomePlace, Loses, RenewsNone, traffic}
 use Rattle.page_contracts.proofs.Losing.{keeps_frames, loses_nothing}

@@ -1,5 +1,5 @@
 -- What settling the page of a slot leaves, in one record for each way.
-use Rattle.std.proofs.Common.{◌≡◌, ◌≢◌, ◌⊎◌, inl, inr, ℕ, ◌+◌, ◌≤◌, List, Bool, true, false, None, Some, refl, sym, ◌∙◌, ap, arith, is_some}
+use Rattle.std.proofs.Common.{◌≡◌, ◌≢◌, ◌⊎◌, inl, inr, ℕ, ◌+◌, ◌≤◌, List, Bool, true, false, None, Some, refl, sym, ◌∙◌, ap, arith}
 use Rattle.std.specs.Prelude.{slice_set}
 use Rattle.std.proofs.lemmas.List.{get_or-set_other}
 use Rattle.machine_names.specs.Bounds.{IsOwner}

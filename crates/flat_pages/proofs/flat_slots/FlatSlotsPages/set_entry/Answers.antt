@@ -1,4 +1,4 @@
-use Rattle.std.proofs.Common.{Option, None, Some, refl, sym, ◌∙◌, ap, subst}
+use Rattle.std.proofs.Common.{Option, None, Some, sym, ◌∙◌, ap, subst}
 use Rattle.std.specs.Prelude.{IsSome}
 use Rattle.std.specs.Option.{option_map}
 use Rattle.machine_names.specs.declared.names.PageName.{PageName}
