@@ -20,7 +20,7 @@ use Rattle.machine_names.proofs.OrderLemmas.{fork_cmp_total, fork_cmp_apart}
 use Rattle.plain_model.proofs.Runs.{AreLegal-append, items_of-append, state_after-append}
 use Rattle.plain_model.specs.Trees.{changed, tree_of, with_body}
 use Rattle.plain_model.proofs.ForkMaps.{cases_name}
-use Rattle.ka10_in_place.specs.Once.{After, in_a_row, once}
+use Rattle.ka10_spots.specs.Once.{After, in_a_row, once}
 use Rattle.fork_tree.proofs.Kept.{changed_tree}
 use Rattle.fork_tree.proofs.Slots.{get_put}
 use Rattle.monitor_core.specs.ForkUnit.{Behind, RanUnits, Rest, behind_unit, left_so, put_in, ran_on}

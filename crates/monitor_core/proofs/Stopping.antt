@@ -14,7 +14,7 @@ use Rattle.page_contracts.specs.Stores.{IsNeeded}
 use Rattle.plain_pages.specs.PlainPages.{NumberedPages}
 use Rattle.plain_model.specs.Trees.{PlainTree, with_body}
 use Rattle.plain_model.proofs.ForkMaps.{put_itself}
-use Rattle.ka10_in_place.specs.Once.{After, in_a_row}
+use Rattle.ka10_spots.specs.Once.{After, in_a_row}
 use Rattle.fork_tree.specs.Trees.{IsTree, Lives}
 use Rattle.fork_tree.proofs.Slots.{get_put}
 use Rattle.fork_calls.specs.Holding.{Holds, MakesPages}

@@ -14,7 +14,7 @@ use Rattle.plain_model.specs.Calls.{posted_if}
 use Rattle.plain_units.specs.Units.{unit_on}
 use Rattle.machine_names.proofs.OrderLemmas.{fork_cmp_total, fork_cmp_apart}
 use Rattle.plain_model.proofs.Posted.{posted_same}
-use Rattle.ka10_in_place.specs.Once.{After, once, in_a_row}
+use Rattle.ka10_spots.specs.Once.{After, once, in_a_row}
 use Rattle.ka10_in_place.specs.Bursts.{and_one_more}
 use Rattle.monitor_core.specs.Shown.{nothing}
 use Rattle.monitor_core.specs.ForkUnit.{Behind, IsCall, RanUnits, RanUpTo, Rest, behind, behind_instruction, behind_unit, called_behind, left_so, post_shown, put_in, ran_on}

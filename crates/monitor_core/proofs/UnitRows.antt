@@ -4,7 +4,7 @@ use Rattle.std.specs.Ordering.{nat_cmp}
 use Rattle.plain_model.specs.declared.fork.Fork.{Fork}
 use Rattle.plain_model.specs.Inspections.{is_interrupted}
 use Rattle.plain_pages.specs.PlainPages.{NumberedPages}
-use Rattle.ka10_in_place.specs.Once.{After, in_a_row}
+use Rattle.ka10_spots.specs.Once.{After, in_a_row}
 use Rattle.monitor_core.specs.ForkUnit.{IsOne, IsRow, Leaving, RanUnits, RanUpTo, Rest, behind_unit, left_so, put_in, ran_on, units_over}
 use Rattle.monitor_core.specs.declared.unit.Last.{Last}
 use Rattle.monitor_core.specs.declared.unit.Last.TheVariants.{Shows, Calls, Needs}

@@ -36,7 +36,7 @@ use Rattle.page_contracts.specs.DrumWords.{DrumWords}
 use Rattle.page_contracts.specs.Pages.{PagesMeaning}
 use Rattle.page_contracts.specs.Stores.{StoreMeaning, IsNeeded}
 use Rattle.plain_model.specs.Trees.{PlainTree}
-use Rattle.ka10_in_place.specs.Once.{After, in_a_row}
+use Rattle.ka10_spots.specs.Once.{After, in_a_row}
 use Rattle.fork_tree.specs.Trees.{Lives}
 use Rattle.file_tables.specs.declared.tables.FileTables.{FileTables}
 use Rattle.file_tables.specs.Tables.{files_of, open_of}

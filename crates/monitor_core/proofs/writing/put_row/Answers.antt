@@ -3,7 +3,7 @@ use Rattle.std.proofs.lemmas.Grind.{get_or_default_zero}
 use Rattle.page_contracts.specs.Pages.{spot_of}
 use Rattle.plain_pages.specs.References.{stored}
 use Rattle.std.specs.Prelude.{slice_index_or}
-use Rattle.ka10_in_place.proofs.Used.{stays_on}
+use Rattle.ka10_spots.proofs.Used.{stays_on}
 use Rattle.monitor_core.proofs.ShownWords.{stored_next}
 use Rattle.monitor_core.proofs.writing.put_row.Goals as goal
 

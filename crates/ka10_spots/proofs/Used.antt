@@ -13,11 +13,11 @@ use Rattle.page_contracts.specs.Pages.{PagesMeaning, HasSpace, OnlyUses, StaysPu
 use Rattle.page_contracts.specs.Stores.{IsUsed}
 use Rattle.plain_pages.specs.PlainPages.{NumberedPages}
 use Rattle.ka10_deeds.specs.declared.word_fields.Address.{Address}
-use Rattle.ka10_in_place.specs.declared.spots.Spot.{Spot}
-use Rattle.ka10_in_place.specs.declared.spots.Spot.TheVariants.{Accumulator, Page}
-use Rattle.ka10_in_place.specs.Glide.{Addressed}
-use Rattle.ka10_in_place.specs.Spots.{IsReached, IsSpot, LeadsTo, UsesPage}
-use Rattle.ka10_in_place.proofs.Stored.{lost_none, lost_on}
+use Rattle.ka10_spots.specs.declared.spots.Spot.{Spot}
+use Rattle.ka10_spots.specs.declared.spots.Spot.TheVariants.{Accumulator, Page}
+use Rattle.ka10_spots.specs.Glide.{Addressed}
+use Rattle.ka10_spots.specs.Spots.{IsReached, IsSpot, LeadsTo, UsesPage}
+use Rattle.ka10_spots.proofs.Stored.{lost_none, lost_on}
 
 module _ {P : Type 0} (means : PagesMeaning P) where
   -- pages that stay as they are

@@ -1,8 +1,8 @@
 use Rattle.std.proofs.Common.{◌≡◌, false, ap, rules}
 use Rattle.plain_units.specs.Addressing.{is_indirect}
-use Rattle.ka10_in_place.proofs.IndirectWords.{directly}
-use Rattle.ka10_in_place.proofs.Used.{uses_none}
-use Rattle.ka10_in_place.proofs.addressing.effective_address.Goals as goal
+use Rattle.ka10_spots.proofs.IndirectWords.{directly}
+use Rattle.ka10_spots.proofs.Used.{uses_none}
+use Rattle.ka10_spots.proofs.addressing.effective_address.Goals as goal
 
 pub returns-clause-told : goal.returns-clause-told
 returns-clause-told g c d f before fits is few =

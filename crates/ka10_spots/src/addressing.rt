@@ -6,7 +6,7 @@ ghost use Rattle.machine_names.specs.Bounds.{IsAddress};
 ghost use Rattle.page_contracts.specs.DrumWords.{DrumWords};
 ghost use Rattle.page_contracts.specs.Pages.{HasSpace, OnlyUses};
 ghost use Rattle.ka10_deeds.specs.Addresses.{addressed};
-ghost use Rattle.ka10_in_place.specs.Spots.{IsLed, LeadsTo};
+ghost use Rattle.ka10_spots.specs.Spots.{IsLed, LeadsTo};
 
 use crate::spots::take;
 use ka10_deeds::{Address, is_indirect, step_of};

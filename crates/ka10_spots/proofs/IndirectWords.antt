@@ -7,10 +7,10 @@ use Rattle.plain_pages.specs.PlainPages.{NumberedPages, PlainPages}
 use Rattle.plain_units.specs.Steps.{Steps}
 use Rattle.plain_units.specs.Addressing.{address, address_within, indexed, is_indirect, last_taken, most_words}
 use Rattle.ka10_deeds.specs.declared.word_fields.Address.{Address}
-use Rattle.ka10_in_place.specs.Glide.{glide, word_of, Takes, Addressed}
+use Rattle.ka10_spots.specs.Glide.{glide, word_of, Takes, Addressed}
 use Rattle.ka10_deeds.specs.Addresses.{addressed}
-use Rattle.ka10_in_place.specs.Spots.{IsLed, IsReached}
-use Rattle.ka10_in_place.proofs.Finishing.{few}
+use Rattle.ka10_spots.specs.Spots.{IsLed, IsReached}
+use Rattle.ka10_spots.proofs.Ready.{few}
 
 module _ {K : Type 0} {file_cmp : K → K → Ordering} (f : ForkName) (p : PlainPages file_cmp) (ac : List ℕ) (before : ℕ) where
   -- a word that isn't indirect

@@ -15,9 +15,9 @@ use Rattle.page_contracts.specs.Pages.{PagesMeaning, MayLose, StaysPut, IsTouche
 use Rattle.plain_pages.specs.References.{in_map, slot_at, stored}
 use Rattle.plain_pages.specs.PlainPages.{NumberedPages}
 use Rattle.ka10_deeds.specs.declared.word_fields.Address.{Address}
-use Rattle.ka10_in_place.specs.declared.spots.Spot.{Spot}
-use Rattle.ka10_in_place.specs.declared.spots.Spot.TheVariants.{Accumulator, Page}
-use Rattle.ka10_in_place.specs.Glide.{Addressed, word_of}
+use Rattle.ka10_spots.specs.declared.spots.Spot.{Spot}
+use Rattle.ka10_spots.specs.declared.spots.Spot.TheVariants.{Accumulator, Page}
+use Rattle.ka10_spots.specs.Glide.{Addressed, word_of}
 
 -- fewer indirect words than these lead from a word to an address
 abbrev pub LeadsTo : {P : Type 0} → PagesMeaning P → P → SpaceHandle → List ℕ → ℕ → ℕ → Option Address → Type 0

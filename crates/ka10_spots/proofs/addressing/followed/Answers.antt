@@ -1,10 +1,10 @@
 use Rattle.std.proofs.Common.{◌≡◌, true, false, IsSome, refl, ap, subst, rules, arith}
 use Rattle.machine_names.specs.declared.names.Kind.TheVariants.{Read}
 use Rattle.plain_units.specs.Addressing.{is_indirect}
-use Rattle.ka10_in_place.specs.Glide.{Takes}
-use Rattle.ka10_in_place.proofs.IndirectWords.{leads_none, leads_done, leads_on, led_from, led_on, led_reached, led_no_further}
-use Rattle.ka10_in_place.proofs.Used.{holds_before, of_fork, reached_still, space_stays, uses_none, uses_on}
-use Rattle.ka10_in_place.proofs.addressing.followed.Goals as goal
+use Rattle.ka10_spots.specs.Glide.{Takes}
+use Rattle.ka10_spots.proofs.IndirectWords.{leads_none, leads_done, leads_on, led_from, led_on, led_reached, led_no_further}
+use Rattle.ka10_spots.proofs.Used.{holds_before, of_fork, reached_still, space_stays, uses_none, uses_on}
+use Rattle.ka10_spots.proofs.addressing.followed.Goals as goal
 
 pub loop-words-init : goal.loop-words-init
 loop-words-init g c = (uses_none g.P.Pages.means c.args.pages.now, λ d f fits is. (λ before few. leads_none f _ _ before _, led_from g.P.Pages.means _ f _ _ _ _))

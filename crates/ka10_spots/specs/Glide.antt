@@ -10,7 +10,7 @@ use Rattle.plain_pages.specs.PlainPages.{PlainPages}
 use Rattle.plain_pages.specs.References.{Making, in_map, makings, slot_at, word_at}
 use Rattle.plain_units.specs.Steps.{Steps, refers, widens, keeps, ends, traps, calls, is_accumulator, put_into}
 use Rattle.plain_units.specs.Addressing.{address}
-use Rattle.ka10_in_place.specs.Once.{After}
+use Rattle.ka10_spots.specs.Once.{After}
 
 -- a reference that is granted, and makes no page
 abbrev pub makes_none : {K : Type 0} → Option (List (Making K)) → Bool

@@ -1,7 +1,7 @@
 use Rattle.std.proofs.Common.{refl}
-use Rattle.ka10_in_place.proofs.Finishing.{ready_there, takes_high}
-use Rattle.ka10_in_place.proofs.Used.{uses_none, uses_page}
-use Rattle.ka10_in_place.proofs.spots.take.Goals as goal
+use Rattle.ka10_spots.proofs.Ready.{ready_there, takes_high}
+use Rattle.ka10_spots.proofs.Used.{uses_none, uses_page}
+use Rattle.ka10_spots.proofs.spots.take.Goals as goal
 
 pub returns-in-Some : goal.returns-in-Some
 returns-in-Some g c = record {

@@ -5,8 +5,8 @@ ghost use Rattle.machine_names.specs.declared.names.ForkName.{ForkName as AForkN
 ghost use Rattle.machine_names.specs.Bounds.{IsAddress};
 ghost use Rattle.page_contracts.specs.DrumWords.{DrumWords};
 ghost use Rattle.page_contracts.specs.Pages.{HasSpace, CanChange, OnlyUses};
-ghost use Rattle.ka10_in_place.specs.Glide.{Takes, is_ready, word_of};
-ghost use Rattle.ka10_in_place.specs.Spots.{IsReached, IsSpot, StoredIf, UsesPage};
+ghost use Rattle.ka10_spots.specs.Glide.{Takes, is_ready, word_of};
+ghost use Rattle.ka10_spots.specs.Spots.{IsReached, IsSpot, StoredIf, UsesPage};
 
 use machine_names::{ACCUMULATORS, Kind, PAGE_ADDRESSES};
 use page_contracts::{Found, Pages, SpaceHandle};

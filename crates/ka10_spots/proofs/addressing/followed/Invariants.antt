@@ -2,9 +2,9 @@ use Rattle.std.proofs.Common.{◌≡◌, ℕ, ◌+◌, ◌-◌, ◌≤◌, Some}
 use Rattle.machine_names.specs.declared.names.ForkName.{ForkName}
 use Rattle.page_contracts.specs.DrumWords.{DrumWords}
 use Rattle.page_contracts.specs.Pages.{OnlyUses}
-use Rattle.ka10_in_place.specs.Spots.{IsLed}
-use Rattle.ka10_in_place.proofs.IndirectWords.{Leads}
-use Rattle.ka10_in_place.proofs.addressing.followed.Given as goal
+use Rattle.ka10_spots.specs.Spots.{IsLed}
+use Rattle.ka10_spots.proofs.IndirectWords.{Leads}
+use Rattle.ka10_spots.proofs.addressing.followed.Given as goal
 
 -- pages were used at most; the words so far lead here, and where all are reached so are those to come
 abbrev pub invariant-loop-words : goal.invariant-loop-words
