@@ -12,10 +12,11 @@ use Rattle.job_sched.specs.Schedules.{Schedule, heads}
 use Rattle.fork_lists.specs.declared.lists.ForkLists.{ForkLists}
 use Rattle.fork_lists.specs.Ties.{AreTied}
 use Rattle.monitor_core.specs.declared.echo.Echo.{Echo}
-use Rattle.monitor_core.specs.declared.runner.Runner.{Runner}
-use Rattle.monitor_core.specs.declared.units.Reach.{Reach}
-use Rattle.monitor_core.specs.Reaching.{EchoReaches, EventReaches, Reaches}
-use Rattle.monitor_core.specs.Runners.{IsRunner}
+use Rattle.monitor_calls.specs.declared.runner.Runner.{Runner}
+use Rattle.monitor_calls.specs.declared.units.Reach.{Reach}
+use Rattle.monitor_core.specs.Reaching.{EchoReaches, EventReaches}
+use Rattle.monitor_calls.specs.Reaching.{Reaches}
+use Rattle.monitor_calls.specs.Runners.{IsRunner}
 
 -- a fork is the head of the ready list
 pub record IsHead (s : Schedule) (f : ForkName) : Type 0 where

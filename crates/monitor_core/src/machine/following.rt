@@ -11,11 +11,10 @@ ghost use Rattle.monitor_core.specs.Echoes.{FitsEcho};
 ghost use Rattle.monitor_core.specs.Following.{AreFollowed, IsAt, IsFollowed, IsHead, IsNowhere, IsOf, IsOfNone, RowEnded};
 
 use crate::echo::Echo;
-use crate::runner::Runner;
-use crate::units::Reach;
 use fork_lists::ForkLists;
 use fork_tree::Tree;
 use machine_names::Tty;
+use monitor_calls::{Reach, Runner};
 use script_texts::Event;
 
 /// A row of units of the head is over, which has reached so far among the forks: the units before the last are counted to its quantum, who stopped

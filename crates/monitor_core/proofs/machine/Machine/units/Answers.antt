@@ -4,7 +4,7 @@ use Rattle.monitor_core.specs.Systems.{IsWithin}
 use Rattle.plain_model.specs.Forks.{IsRunnable}
 use Rattle.plain_model.specs.Trees.{PlainTree}
 use Rattle.fork_lists.specs.Ties.{AreTied}
-use Rattle.monitor_core.specs.Reaching.{Reaches}
+use Rattle.monitor_calls.specs.Reaching.{Reaches}
 use Rattle.monitor_core.proofs.ListsTied.{fewer_row}
 use Rattle.monitor_core.proofs.Runnable.{runner_fits}
 use Rattle.monitor_core.proofs.StepDid.{turns_given, turns_cut}

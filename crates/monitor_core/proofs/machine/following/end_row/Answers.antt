@@ -4,8 +4,8 @@ use Rattle.fork_lists.specs.Ties.{AreTied, ComesOn}
 use Rattle.job_sched.specs.Lines.{Nears, is_in_line}
 use Rattle.job_sched.specs.Schedules.{Schedule, heads}
 use Rattle.job_sched.specs.Units.{row_ran}
-use Rattle.monitor_core.specs.declared.units.Reach.{Reach}
-use Rattle.monitor_core.specs.Reaching.{Reaches}
+use Rattle.monitor_calls.specs.declared.units.Reach.{Reach}
+use Rattle.monitor_calls.specs.Reaching.{Reaches}
 use Rattle.monitor_core.proofs.ListsTied.{can_follow, tied_followed, tied_own}
 use Rattle.monitor_core.proofs.RowPassed.{comes_behind, head_at, head_goes_on, head_gone}
 use Rattle.monitor_core.proofs.machine.following.end_row.Goals as goal
