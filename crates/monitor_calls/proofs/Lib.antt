@@ -1,23 +1,23 @@
 mod Making
-mod Writes
-mod Maps
+pub mod Writes
+pub mod Maps
 mod MapFrom
-mod Lookups
+pub mod Lookups
 mod Kills
-mod ShownWords
-mod Silent
+pub mod ShownWords
+pub mod Silent
 mod UnitRan
 mod UnitRows
-mod Keeping
+pub mod Keeping
 mod Leaving
 mod Stopping
 mod Calling
-mod NamedKeys
-mod JfnsAsked
+pub mod NamedKeys
+pub mod JfnsAsked
 mod JfnTurns
 mod MapTurns
 mod ByteTurns
 mod CodeTurns
-mod Sounds
+pub mod Sounds
 mod MadeBeside
-mod ReachDid
+pub mod ReachDid
