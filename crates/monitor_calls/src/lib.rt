@@ -17,5 +17,5 @@ pub use runner::Runner;
 pub use shown::{Shown, Stop};
 pub use typing::{Typing, empty_typings};
 pub use unit::channel_of;
-pub use units::{Reach, units_of};
-pub use writing::{write_row, write_word};
+pub use units::{Reach, Units, units_of};
+pub use writing::{Barred, write_row, write_word};
