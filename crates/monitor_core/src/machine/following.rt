@@ -2,6 +2,7 @@
 ghost use Rattle.std.specs.Prelude.{◌≡◌, ◌≢◌, ◌-◌, ◌≤◌, MatchOption, true};
 ghost use Rattle.fork_lists.specs.Ties.{AreTied};
 ghost use Rattle.job_sched.specs.Lines.{Nears, is_in_line};
+ghost use Rattle.job_sched.specs.Ties.{WaitsLess};
 ghost use Rattle.job_sched.specs.Units.{IsRow, row_ran};
 ghost use Rattle.machine_names.specs.declared.names.ForkName.{ForkName as AForkName};
 ghost use Rattle.plain_model.specs.Forks.{IsRunnable};
@@ -26,6 +27,7 @@ pub fn end_row(lists: &mut ForkLists, tree: &Tree, who: Runner, reach: Reach, co
     requires row { IsRow count lists.old.sched }
     requires some { 1 ≤ count }
     ensures tied { AreTied tree.now.forks lists.new }
+    ensures waits { WaitsLess lists.old.sched.waiting lists.new.sched.waiting }
     ensures closer { (f : AForkName) → IsRunnable tree.now.forks f → f ≢ who.fork → is_in_line f lists.old.sched ≡ true → Nears f (row_ran (count - 1) lists.old.sched) lists.new.sched 1 }
 {
     lists.sound();
@@ -61,7 +63,8 @@ fn terminal_of(e: &Event) -> Option<Tty>
 pub fn follow_event(lists: &mut ForkLists, tree: &Tree, e: &Event)
     requires fits { FitsEvent e.now }
     requires followed { AreFollowed lists.old tree.now e.now }
-    ensures { AreTied tree.now.forks lists.new }
+    ensures tied { AreTied tree.now.forks lists.new }
+    ensures waits { WaitsLess lists.old.sched.waiting lists.new.sched.waiting }
 {
     tree.are_trees();
     match terminal_of(e) {
@@ -96,7 +99,8 @@ pub fn follow_typed(lists: &mut ForkLists, tree: &Tree, t: Tty, shown: &Echo)
     requires terminal { IsTerminal t }
     requires fits { FitsEcho shown.now }
     requires followed { IsFollowed lists.old tree.now t shown.now }
-    ensures { AreTied tree.now.forks lists.new }
+    ensures tied { AreTied tree.now.forks lists.new }
+    ensures waits { WaitsLess lists.old.sched.waiting lists.new.sched.waiting }
 {
     tree.are_trees();
     match reached_terminal(t, shown) {

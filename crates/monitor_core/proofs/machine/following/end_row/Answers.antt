@@ -3,6 +3,7 @@ use Rattle.fork_lists.specs.declared.lists.ForkLists.{ForkLists}
 use Rattle.fork_lists.specs.Ties.{AreTied, ComesOn}
 use Rattle.job_sched.specs.Lines.{Nears, is_in_line}
 use Rattle.job_sched.specs.Schedules.{Schedule, heads}
+use Rattle.job_sched.specs.Ties.{WaitsLess}
 use Rattle.job_sched.specs.Units.{row_ran}
 use Rattle.monitor_calls.specs.declared.units.Reach.{Reach}
 use Rattle.monitor_calls.specs.Reaching.{Reaches}
@@ -100,3 +101,21 @@ returns-then-is_head-clause-closer c f runs apart here =
       | in-Made w ↦ head_goes_on f who m _ (subst (λ (l : ForkLists). ComesOn f m l.sched) (sym w.lists-is) (behind w.follow_maker.new.self.sched (w.follow_maker.ensures.comes_on f runs))) apart still
       | in-Job w ↦ head_goes_on f who m _ (subst (λ (l : ForkLists). ComesOn f m l.sched) (sym w.lists-is) (behind w.follow.new.self.sched (w.follow.ensures.comes_on f runs))) apart still
     ])
+
+pub returns-else-is_head-clause-waits : goal.returns-else-is_head-clause-waits
+returns-else-is_head-clause-waits c =
+    let less = λ (s : Schedule). WaitsLess s.waiting in
+    subst (λ ws. WaitsLess ws c.match-reach.lists.sched.waiting) c.ran_row.ensures.waits (elim c.match-reach.branch [
+      | in-Own w ↦ subst (λ (l : ForkLists). less c.ran_row.new.self.sched l.sched.waiting) (sym w.lists-is) w.follow_slot.ensures.waits
+      | in-Made w ↦ subst (λ (l : ForkLists). less c.ran_row.new.self.sched l.sched.waiting) (sym w.lists-is) w.follow_maker.ensures.waits
+      | in-Job w ↦ subst (λ (l : ForkLists). less c.ran_row.new.self.sched l.sched.waiting) (sym w.lists-is) w.follow.ensures.follows.waits
+    ])
+
+pub returns-then-is_head-clause-waits : goal.returns-then-is_head-clause-waits
+returns-then-is_head-clause-waits c =
+    let less = λ (s : Schedule). WaitsLess s.waiting in
+    subst (WaitsLess c.args.lists.now.sched.waiting) (sym c.ran_row-then-is_head.ensures.waits) (subst (λ ws. WaitsLess ws c.match-reach.lists.sched.waiting) c.ran_row.ensures.waits (elim c.match-reach.branch [
+      | in-Own w ↦ subst (λ (l : ForkLists). less c.ran_row.new.self.sched l.sched.waiting) (sym w.lists-is) w.follow_slot.ensures.waits
+      | in-Made w ↦ subst (λ (l : ForkLists). less c.ran_row.new.self.sched l.sched.waiting) (sym w.lists-is) w.follow_maker.ensures.waits
+      | in-Job w ↦ subst (λ (l : ForkLists). less c.ran_row.new.self.sched l.sched.waiting) (sym w.lists-is) w.follow.ensures.follows.waits
+    ]))
