@@ -9,7 +9,7 @@ ghost use Rattle.plain_model.specs.Forks.{IsRunnable};
 ghost use Rattle.machine_names.specs.Bounds.{IsTerminal};
 ghost use Rattle.script_texts.specs.Limits.{FitsEvent};
 ghost use Rattle.monitor_core.specs.Echoes.{FitsEcho};
-ghost use Rattle.monitor_core.specs.Following.{AreFollowed, IsAt, IsFollowed, IsHead, IsNowhere, IsOf, IsOfNone, RowEnded};
+ghost use Rattle.monitor_core.specs.Following.{AreFollowed, IsAt, IsFollowed, IsHead, IsNowhere, IsOf, IsOfNone, RowEnded, last_counted, reach_followed};
 
 use crate::echo::Echo;
 use fork_lists::ForkLists;
@@ -26,6 +26,7 @@ pub fn end_row(lists: &mut ForkLists, tree: &Tree, who: Runner, reach: Reach, co
     requires head { IsHead lists.old.sched who.fork }
     requires row { IsRow count lists.old.sched }
     requires some { 1 ≤ count }
+    ensures schedule { lists.new.sched ≡ last_counted who.fork (reach_followed reach tree.now who.fork lists.old.seen.items (row_ran (count - 1) lists.old.sched)) }
     ensures tied { AreTied tree.now.forks lists.new }
     ensures waits { WaitsLess lists.old.sched.waiting lists.new.sched.waiting }
     ensures closer { (f : AForkName) → IsRunnable tree.now.forks f → f ≢ who.fork → is_in_line f lists.old.sched ≡ true → Nears f (row_ran (count - 1) lists.old.sched) lists.new.sched 1 }
