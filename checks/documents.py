@@ -79,13 +79,16 @@ for name in sorted(examples - set(indexed)):
 for name in sorted({name for name in indexed if indexed.count(name) > 1}):
     fail(f"examples/README.md has {name} twice")
 
-# the example of README.md
-block = text_of("README.md")
-for end in ("script", "transcript", "record"):
-    for line in text_of(f"examples/copy.{end}").split("\n"):
-        for part in re.split(r"(?=\\015)", line) if end == "transcript" else [line]:
-            if part and not part.startswith(";") and part not in block:
-                fail(f"README.md does not show the line {part!r} of examples/copy.{end}")
+# README.md: its length, and the session that it shows
+readme = text_of("README.md")
+words = len(readme.split())
+if words > 1000:
+    fail(f"README.md has {words} words, and should have at most 1000")
+typed = "".join(line[3:] for line in text_of("examples/session.transcript").split("\n") if line.startswith("T0 "))
+screen = typed.replace("\\015\\012", "\n")
+shown = re.search(r"^    @directory.*?(?=\n\n)", readme, re.M | re.S)[0]
+if "\n".join(line[4:34].rstrip() for line in shown.split("\n")) not in screen:
+    fail("README.md does not show what terminal 0 shows in examples/session.transcript")
 
 # what the lessons quote
 for lesson in text_of("docs/LESSONS.md").split("\n## ")[1:]:

@@ -1,7 +1,7 @@
-"""Which files of definitions the headline rests on, worked out from the definitions, and whether README.md and docs/PROMISES.md say so.
+"""Which files of definitions the headline rests on, worked out from the definitions, and whether docs/PROMISES.md says so.
 
 A definition reaches each name that it uses: of its own file, or of a file of specs that its file takes the name from. The types and
-constants of the code (`declared`) are counted, and end the way. Status 1: a document says otherwise, and what differs was printed.
+constants of the code (`declared`) are counted, and end the way. Status 1: the document says otherwise, and what differs was printed.
 """
 import collections
 import glob
@@ -121,24 +121,18 @@ for file in sorted({file for file, _ in reached}):
 lines = sum(len(files[file].lines[name]) for file, name in reached)
 
 
-def compare(document, said, pattern):
-    found = collections.defaultdict(set)
-    for crate, names in re.findall(pattern, said):
-        found[crate] |= set(re.findall(r"`(\w+)`", names))
-    for crate in sorted(set(wanted) | set(found)):
-        for name in sorted(wanted[crate] - found[crate]):
-            fail(f"{document} lacks {name} of {crate}")
-        for name in sorted(found[crate] - wanted[crate]):
-            fail(f"{document} names {name} of {crate}, which the headline does not reach")
-    if f"these {count} files" not in said:
-        fail(f"{document} does not say 'these {count} files'")
-
-
-readme = open("README.md", encoding="utf-8").read()
-compare("README.md", readme[readme.index("To trust it"):readme.index("Laws stand above")], r"`(\w+)`: ((?:`\w+`(?:, )?)+)")
 promises = open("docs/PROMISES.md", encoding="utf-8").read()
 part = promises[promises.index("## What one reads"):promises.index("## Every call returns")]
-compare("docs/PROMISES.md", part, r"\| (\w+) \| ((?:`\w+`(?:, )?)+) \|")
+found = collections.defaultdict(set)
+for crate, names in re.findall(r"\| (\w+) \| ((?:`\w+`(?:, )?)+) \|", part):
+    found[crate] |= set(re.findall(r"`(\w+)`", names))
+for crate in sorted(set(wanted) | set(found)):
+    for name in sorted(wanted[crate] - found[crate]):
+        fail(f"docs/PROMISES.md lacks {name} of {crate}")
+    for name in sorted(found[crate] - wanted[crate]):
+        fail(f"docs/PROMISES.md names {name} of {crate}, which the headline does not reach")
+if f"these {count} files" not in part:
+    fail(f"docs/PROMISES.md does not say 'these {count} files'")
 said = re.search(r"some ([\d,]+) definitions of ([\d,]+) lines.* and some ([\d,]+) types and constants", part)
 for what, is_now, text in zip(("definitions", "lines", "types and constants"), (len(reached), lines, len(declared)), said.groups() if said else ("0",) * 3):
     number = int(text.replace(",", ""))
