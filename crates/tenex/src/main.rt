@@ -4,11 +4,14 @@
 #![tactic(auto)]
 
 mod messages;
+mod program_text;
 mod watch;
 
-use asm_console::{AsmStatus, asm};
+use asm_console::{AsmStatus, Stopped, asm};
+use asm_core::AsmFault;
 use messages::{explain, explain_error, explain_line, explain_stopped, usage};
 use outside::{MOST_DRUM_PAGES, Source, StdSink, StdSource, SureDrum};
+use program_text::Kept;
 use std::fs::File;
 use std::io::{self, BufWriter, ErrorKind};
 use std::os::unix::fs::FileTypeExt;
@@ -17,7 +20,7 @@ use std::rt::Env;
 use std::{env, fs};
 use tenex_console::tenex;
 use texts::Status;
-use watch::Watched;
+use watch::{BadLine, Watched};
 
 /// The file in the current folder that takes the record.
 const RECORD: &str = "tenex.record";
@@ -102,15 +105,23 @@ fn assemble(rt: &HostRuntime, words: &[String]) -> u8 {
     let Ok(printer) = BufWriter::new(alloc, rt.stdout()) else {
         return no_memory(rt);
     };
-    let mut text = StdSource::new(rt.stdin());
+    let mut text = Kept::new(alloc, StdSource::new(rt.stdin()));
     let mut out = StdSink::new(printer);
     let status = asm(alloc, words, &mut text, &mut out);
     if let AsmStatus::Stopped(why) = &status {
-        explain_stopped(rt, why);
+        explain_stopped(rt, why, bad_line(why, &text).as_ref());
     }
-    explain_error(rt, "standard input", text.error());
+    explain_error(rt, "standard input", text.source().error());
     explain_error(rt, "standard output", out.error());
     status.number()
+}
+
+/// The line for which a text is no program, where it is for one that is no line.
+fn bad_line<'a, S: Source>(why: &Stopped, text: &'a Kept<S>) -> Option<BadLine<'a>> {
+    match why {
+        Stopped::Fault(AsmFault::Line(number)) => text.bad(*number),
+        _ => None,
+    }
 }
 
 /// Whether the words are those of the assembler, right or wrong.

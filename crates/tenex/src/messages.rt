@@ -1,6 +1,6 @@
 // What standard error says to a person. No text of a run goes there, and where it can't be written nothing
 // is lost.
-use crate::watch::{BadLine, Wrong};
+use crate::watch::{BadLine, TextKind, Wrong};
 use asm_console::Stopped;
 use asm_core::AsmFault;
 use std::io::Error;
@@ -53,13 +53,22 @@ pub fn explain_error(rt: &HostRuntime, file: &str, error: Option<&Error>) {
     }
 }
 
-/// Says which line of a script is bad, and why.
+/// What a text of this kind is called.
+fn name_of(kind: TextKind) -> &'static str {
+    match kind {
+        TextKind::Script => "a script",
+        TextKind::Program => "a program",
+    }
+}
+
+/// Says which line of a text is bad, and why.
 pub fn explain_line(rt: &HostRuntime, bad: &BadLine<'_>) {
     let number = bad.number;
     let _ = match bad.wrong {
         Wrong::NoLine => {
-            let text = shown(bad.bytes);
-            eprintln!(rt; "tenex: line {number} is no line of a script: {text}")
+            let name = name_of(bad.of);
+            let text = shown(bad);
+            eprintln!(rt; "tenex: line {number} is no line of {name}: {text}")
         }
         Wrong::TooLong => eprintln!(rt; "tenex: line {number} has more than 256 bytes"),
         Wrong::TooManyTurns => {
@@ -71,17 +80,36 @@ pub fn explain_line(rt: &HostRuntime, bad: &BadLine<'_>) {
     };
 }
 
-/// A line as it can be shown: its bytes, where each is a printed character or a space.
-fn shown(bytes: &[u8]) -> &str {
-    if bytes.iter().all(|c| *c >= b' ' && *c <= b'~') {
-        str::from_utf8(bytes).unwrap_or("")
+/// A bad line as it can be shown: its bytes, where each is printed. A tab may stand in a program.
+fn shown<'a>(bad: &BadLine<'a>) -> &'a str {
+    let bytes = bad.bytes;
+    let tabs = matches!(bad.of, TextKind::Program);
+    if bytes
+        .iter()
+        .all(|c| is_printed(*c) || (tabs && *c == b'\t'))
+    {
+        text_of(bytes)
     } else {
         "it has bytes that are not printed"
     }
 }
 
-/// Says why a program has no words: nothing, where the error of a file says it.
-pub fn explain_stopped(rt: &HostRuntime, why: &Stopped) {
+/// Characters of 7 bits as a text.
+fn text_of(bytes: &[u8]) -> &str {
+    str::from_utf8(bytes).unwrap_or("")
+}
+
+/// Whether a byte is a printed character or a space.
+fn is_printed(c: u8) -> bool {
+    (b' '..=b'~').contains(&c)
+}
+
+/// Says why a program has no words, with the line that is bad, where there is one: nothing, where the error of a
+/// file says it.
+pub fn explain_stopped(rt: &HostRuntime, why: &Stopped, bad: Option<&BadLine<'_>>) {
+    if let Some(bad) = bad {
+        return explain_line(rt, bad);
+    }
     match why {
         Stopped::Usage => usage(rt),
         Stopped::ReadFault => {}
@@ -103,11 +131,11 @@ fn explain_fault(rt: &HostRuntime, fault: &AsmFault) {
             "tenex: a word or the label of line {n} would be at 1000000 or above"
         ),
         AsmFault::Doubled(symbol) => {
-            let symbol = shown(symbol.as_slice());
+            let symbol = text_of(symbol.as_slice());
             eprintln!(rt; "tenex: the symbol {symbol} labels two lines")
         }
         AsmFault::Undefined(symbol) => {
-            let symbol = shown(symbol.as_slice());
+            let symbol = text_of(symbol.as_slice());
             eprintln!(rt; "tenex: the symbol {symbol} is used and labels no line")
         }
     };

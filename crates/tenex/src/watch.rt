@@ -19,11 +19,19 @@ pub enum Wrong {
     Unended,
 }
 
-/// A bad line: its number, counted from 1, what is wrong with it, and its bytes.
+/// What a bad line was to be a line of.
+#[derive(Clone, Copy)]
+pub enum TextKind {
+    Script,
+    Program,
+}
+
+/// A bad line: its number, counted from 1, what is wrong with it, of what it is one, and its bytes.
 #[derive(Clone, Copy)]
 pub struct BadLine<'a> {
     pub number: u64,
     pub wrong: Wrong,
+    pub of: TextKind,
     pub bytes: &'a [u8],
 }
 
@@ -74,8 +82,8 @@ impl Lines {
     }
 }
 
-// What is wrong with a line that has no line feed.
-fn unended(line: &[u8]) -> Wrong {
+/// What is wrong with a line that has no line feed.
+pub fn unended(line: &[u8]) -> Wrong {
     if line.len() > MOST_LINE {
         Wrong::TooLong
     } else {
@@ -160,6 +168,7 @@ impl<S: Source> Watched<S> {
                 return Some(BadLine {
                     number: lines.lines,
                     wrong,
+                    of: TextKind::Script,
                     bytes: piece.strip_suffix(b"\n").unwrap_or(piece),
                 });
             }
