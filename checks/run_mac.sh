@@ -1,0 +1,61 @@
+#!/usr/bin/env bash
+# Runs run-mac with the built program: with the program of an example and its script it makes the lines of that script, and with a
+# program alone a script of its own, of which it shows the terminal. Status 1: something differs, and each difference was printed.
+set -u
+top=$(cd "$(dirname "$0")/.." && pwd)
+work=$(mktemp -d)
+trap 'rm -rf "$work"' EXIT
+cases=0
+failures=0
+
+fail() {
+    echo "run_mac.sh: FAILED: $*" >&2
+    failures=$((failures + 1))
+}
+
+"$top/tenex" build || fail "the build"
+cd "$work" || exit 1
+
+# The events of a script, their numbers without zeros in front.
+events() {
+    sed -E '/^;/d; /^$/d; s/ 0+([0-7])/ \1/g'
+}
+
+for text in "$top"/examples/lesson_*.mac; do
+    cases=$((cases + 1))
+    script=${text%.mac}.script
+    "$top/run-mac" --script "$text" "$script" | events >"$work/found"
+    events <"$script" | diff - "$work/found" >&2 || fail "${text#"$top"/}: the script that is made is not the one beside it (wanted, then found)"
+done
+
+# shows WANTED STATUS WORD..: what run-mac prints (as printf's %b writes it), and its status.
+shows() {
+    local wanted=$1 status=$2 found
+    shift 2
+    cases=$((cases + 1))
+    "$top/run-mac" "$@" >"$work/out" 2>"$work/messages"
+    found=$?
+    [ "$found" -eq "$status" ] || fail "the words '$*': status $found, wanted $status"
+    printf '%b' "$wanted" | diff - "$work/out" >&2 || fail "the words '$*': another text (wanted, then found)"
+}
+
+shows '@3628800\n@\nF 0 1 0 HALT PC 000105\n' 0 "$top/examples/factorial.mac"
+shows '@\n@\nF 0 1 0 HALT PC 000103\n' 0 "$top/examples/first.mac" 102 1
+printf ' LOC 100\nDATA: WORD 101\nSTART: MOVE 1,DATA\n PBOUT\n HALTF\n' >begins.mac
+shows '@A\n@\nF 0 1 0 HALT PC 000104\n' 0 begins.mac
+printf 'LOGIN 0 A\nPOKE 0 100 0\nSTART 0 101\nRUN 2\nEXAMINE 0 1 1\n' >begins.script
+shows '@A\nX 0 1 000001 000000000101\n' 0 begins.mac begins.script
+printf ' HALT\n' >bad.mac
+shows '' 10 bad.mac
+grep -q '^tenex: line 1 is no line of a program:  HALT$' messages || fail "a bad line is not shown, but '$(cat messages)'"
+shows '' 1 begins.mac 108
+shows '' 1 begins.mac 100 x
+shows '' 1 absent.mac
+shows '' 1 begins.mac absent.script
+shows '' 1
+
+if [ "$failures" -ne 0 ]; then
+    echo "run_mac.sh: $failures failures in $cases cases" >&2
+    exit 1
+fi
+echo "run_mac.sh: $cases cases passed"
