@@ -49,6 +49,11 @@ same_answer() {
         fail "the words '$*': the usage differs (program, then wrapper)"
 }
 
+# said WORDS: the wrapper has said them.
+said() {
+    grep -q "$1" "$work/found/messages" || fail "the wrapper does not say '$1' but '$(cat "$work/found/messages")'"
+}
+
 # handed_on WORD..: a run by the program, and the wrapper hands it on.
 handed_on() {
     cases=$((cases + 1))
@@ -61,7 +66,7 @@ handed_on() {
 same_answer
 same_answer help
 same_answer --help
-grep -q 'takes\|after about' "$work/found/messages" || fail "help doesn't say how long a run takes"
+grep -q 'after one to two minutes' "$work/found/messages" || fail "help doesn't say how long a run takes"
 same_answer ''
 same_answer help ''
 same_answer help me
@@ -80,6 +85,9 @@ same_answer ASM 0
 handed_on asm 0
 handed_on asm 07
 handed_on asm 15
+said 'The POKE lines come'
+said 'no contract of them'
+said "'checked: ..' and 'run=..'"
 same_answer run help
 same_answer run --help
 same_answer run run
@@ -134,6 +142,8 @@ handed_on big 7
 handed_on big --frames 160 007
 handed_on big --frames=160 999999999 --drum 256
 handed_on run
+said 'The transcript comes'
+said 'no tenex.record is kept'
 handed_on run --frames 160
 handed_on run --frames 8192 --drum 16384
 handed_on run --drum=256 --frames=000000160
