@@ -1,6 +1,6 @@
 #!/usr/bin/env bash
-# Assembles each program of the examples anew with the built program, and compares its words with those of the POKE lines of
-# the script beside it; and runs the assembler into each way in which it ends. Status 1: something differs, and each difference was printed.
+# Assembles each program of the examples anew with the built program, and compares its words with those that the script beside it
+# puts; and runs the assembler into each way in which it ends. Status 1: something differs, and each difference was printed.
 set -u
 top=$(cd "$(dirname "$0")/.." && pwd)
 program=${1:-$top/build/tenex}
@@ -17,25 +17,44 @@ fail() {
 [ $# -gt 0 ] || "$top/tenex" build || fail "the build"
 [ -x "$program" ] || exit 1
 
-# The POKE lines of a script, their numbers without zeros in front.
-pokes() {
-    sed -nE '/^POKE /{s/ 0+([0-7])/ \1/g;p;}' "$1"
+# The words that a script puts, a line each: 'I address word' for an instruction, as the comment above it says, and 'W address word' for
+# another. The words of a file stand at their places in it.
+puts() {
+    awk '
+        function value(octal,  n, i) { n = 0; for (i = 1; i <= length(octal); i++) n = n * 8 + substr(octal, i, 1); return n }
+        function plain(octal) { sub(/^0+/, "", octal); return octal == "" ? "0" : octal }
+        function put(address, word) { print (address in said ? "I" : "W"), address, plain(word) }
+        /^; [0-7]+  [A-Z]+( [0-7@(,][^ ]*)?( *;.*)?$/ { said[plain($2)] = 1; next }
+        /^;/ { next }
+        $1 == "POKE" { put(plain($3), $4) }
+        $1 == "WORDS" { for (i = 5; i <= NF; i++) put(sprintf("%o", value($3) * 512 + value($4) + i - 5), $i) }
+        { split("", said) }' "$1"
 }
 
+# Each program has words that its script puts, and each instruction that a script puts is one of its programs: NAME.mac, and NAME_t.mac for
+# terminal t where that has another.
 programs=0
-for text in "$top"/examples/*.mac; do
-    script=${text%.mac}.script
-    name=${text#"$top"/}
-    if [ ! -e "$script" ]; then
-        fail "$name: no script is beside it"
-        continue
-    fi
-    terminal=$(sed -nE '/^POKE /{s/POKE ([0-9]+) .*/\1/p;q;}' "$script")
-    "$program" asm "$terminal" <"$text" >"$work/found" || fail "$name: status $?, $(cat "$work/found")"
-    pokes "$script" | diff - "$work/found" >&2 || fail "$name: its words are not those of the script (script, then assembled)"
-    programs=$((programs + 1))
+for script in "$top"/examples/*.script "$top"/examples/instructions/*.script; do
+    name=${script%.script}
+    puts "$script" >"$work/puts"
+    cut -d ' ' -f 2- "$work/puts" | sort -u >"$work/all"
+    sed -n 's/^I //p' "$work/puts" | sort -u >"$work/instructions"
+    : >"$work/assembled"
+    for text in "$name".mac "$name"_[0-9].mac "$name"_[0-9][0-9].mac; do
+        [ -e "$text" ] || continue
+        "$program" asm 0 <"$text" >"$work/found" || fail "${text#"$top"/}: status $?, $(cat "$work/found")"
+        cut -d ' ' -f 3- "$work/found" >>"$work/assembled"
+        programs=$((programs + 1))
+    done
+    sort -u "$work/assembled" -o "$work/assembled"
+    comm -13 "$work/all" "$work/assembled" | grep . >&2 && fail "${name#"$top"/}: these words of its programs are not those of the script"
+    comm -13 "$work/assembled" "$work/instructions" | grep . >&2 && fail "${name#"$top"/}: no program has these instructions of the script"
 done
-[ "$programs" -ge 10 ] || fail "there are only $programs programs"
+[ "$programs" -ge 100 ] || fail "there are only $programs programs"
+for text in "$top"/examples/*.mac "$top"/examples/instructions/*.mac; do
+    name=${text%.mac}
+    [ -e "$name.script" ] || [ -e "${name%_*}.script" ] || fail "${text#"$top"/}: no script is beside it"
+done
 
 # ends STATUS OUT SAID WORD..: on the text on standard input the program ends with that status, and has written these bytes (as
 # printf's %b writes them); standard error begins with the text of SAID, and is empty where that is; no file is made.
@@ -61,8 +80,12 @@ ends 0 'POKE 0 0 406040000000\n' '' asm 0 < <(printf 'A: ASCIZ "AB"\n')
 ends 0 '' '' asm 0 </dev/null
 ends 10 '?UNDEFINED B\n' 'tenex: the symbol B ' asm 0 < <(printf ' JRST B\n')
 ends 10 '?DOUBLED A\n' 'tenex: the symbol A ' asm 0 < <(printf 'A: HALTF\nA: HALTF\n')
-ends 10 '?LINE 2\n' 'tenex: line 2 is no line of a program' asm 0 < <(printf ' HALTF\n HALT\n')
-ends 10 '?LINE 1\n' 'tenex: line 1 is no line of a program' asm 0 < <(printf ' HALTF')
+ends 10 '?LINE 2\n' 'tenex: line 2 is no line of a program:  HALT' asm 0 < <(printf ' HALTF\n HALT\n')
+ends 10 '?LINE 1\n' $'tenex: line 1 is no line of a program: \tHALT' asm 0 < <(printf '\tHALT\n')
+ends 10 '?LINE 1\n' 'tenex: line 1 is no line of a program: it has bytes that are not printed' asm 0 < <(printf ' HALTF\r\n')
+ends 10 '?LINE 2\n' 'tenex: line 2 has more than 256 bytes' asm 0 < <(printf ' HALTF\n;%256d\n' 0)
+ends 10 '?LINE 1\n' 'tenex: line 1 does not end with a line feed' asm 0 < <(printf ' HALTF')
+ends 10 '?LINE 9000\n' 'tenex: line 9000 is no line of a program: HALT ' asm 0 < <(yes ' HALTF' | head -n 8999; echo 'HALT ')
 ends 10 '?OVERRUN 3\n' 'tenex: a word or the label of line 3 ' asm 0 < <(printf ' LOC 777777\n HALTF\n HALTF\n')
 for words in 'asm' 'asm 16' 'asm 000' 'asm 0 0' 'asm -- 0' 'asm x'; do
     # shellcheck disable=SC2086 # the words of a command are separate arguments
