@@ -1,6 +1,6 @@
 """Whether the comments of the examples fit their words: a comment '; ADDRESS  INSTRUCTION' or '; ADDRESS  WORD' stands for the word
 that the next POKE or WORDS puts at that address. Each example opens with a comment, and one that starts a program has its instructions in comments.
-Status 1: something does not fit, and each was printed.
+Whether the index of docs/MACHINE.md has their numbers. Status 1: something does not fit, and each was printed.
 """
 import glob
 import re
@@ -106,6 +106,19 @@ for path in scripts:
     for name, number in CALLS.items():
         if 0o104000000000 + number in words and name not in names:
             fail(f"{path} has no comment with {name}")
+
+# the index of the machine's document: each call with its number, and each name of an instruction with its opcode
+index = open("docs/MACHINE.md", encoding="utf-8").read().partition("\n## Index\n")[2]
+indexed = dict(re.findall(r"\b([A-Z]{2,6}) ([0-7]{2,3})\b", index))
+for name, number in CALLS.items():
+    if indexed.pop(name, "") != f"{number:o}":
+        fail(f"the index of docs/MACHINE.md does not have {name} {number:o}")
+for name, number in indexed.items():
+    if OPCODES.get(name) != int(number, 8):
+        fail(f"the index of docs/MACHINE.md has {name} {number}")
+for name, opcode in OPCODES.items():
+    if name not in indexed and not any(name[:n] in indexed for n in range(2, len(name))):
+        fail(f"the index of docs/MACHINE.md lacks {name} {opcode:o}")
 if failures:
     sys.exit(1)
 print(f"mnemonics.py: {comments} comments of {len(scripts)} examples are those of their words")
