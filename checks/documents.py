@@ -93,9 +93,11 @@ if "\n".join(line[4:34].rstrip() for line in shown.split("\n")) not in screen:
 # what the lessons quote
 for lesson in text_of("docs/LESSONS.md").split("\n## ")[1:]:
     name = re.search(r"\(\.\./examples/(lesson_\w+)\.script\)", lesson)[1]
+    if f"(../examples/{name}.mac)" not in lesson:
+        fail(f"docs/LESSONS.md does not name the program of {name}")
     shown = [line for end in ("script", "transcript", "record") for line in text_of(f"examples/{name}.{end}").split("\n")]
     for line in re.findall(r"^    (.*)$", lesson, re.M):
-        if line not in shown and not line.startswith(("./tenex", "cp ")):
+        if line not in shown and not line.startswith(("./tenex", "./run-mac", "cp ")):
             fail(f"docs/LESSONS.md quotes {line!r}, which {name} does not have")
 
 if failures:
