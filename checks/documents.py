@@ -24,7 +24,7 @@ def anchors(text):
 
 
 # links
-documents = ["README.md", *glob.glob("docs/*.md"), *glob.glob("examples/*.md"), *glob.glob("crates/*/README.md")]
+documents = sorted({"README.md", *glob.glob("*/*.md"), *glob.glob("docs/**/*.md", recursive=True), *glob.glob("crates/*/README.md")})
 links = 0
 for document in documents:
     text = text_of(document)
