@@ -1,0 +1,132 @@
+"""Whether view/ shows what the texts of the examples say: each command runs on each example, and README.md of view/ shows what its
+commands print now. Status 1: something does not fit, and each was printed.
+"""
+import contextlib
+import glob
+import io
+import re
+import shlex
+import sys
+import xml.etree.ElementTree as xml
+
+sys.path[:0] = ["view", "checks"]
+import mnemonics
+import names
+import texts
+import view
+
+SVG = "{http://www.w3.org/2000/svg}"
+failures = 0
+
+
+def fail(text):
+    global failures
+    failures += 1
+    print(f"view.py: FAILED: {text}", file=sys.stderr)
+
+
+def shown(*words):
+    """What a command prints."""
+    out = io.StringIO()
+    with contextlib.redirect_stdout(out):
+        view.main([str(word) for word in words])
+    return out.getvalue()
+
+
+def expect(what, found, wanted):
+    if found != wanted:
+        fail(f"{what}: {found!r} instead of {wanted!r}")
+
+
+def check_screens(path):
+    """Each character of a terminal is on its screen, and the printed ones as they are."""
+    typed = [it for it in map(texts.typed_by, texts.read(path)) if it]
+    for terminal in {0} | {t for t, _ in typed}:
+        wanted = "".join(text for t, text in typed if t == terminal)
+        screen = shown("screen", terminal, path)
+        expect(f"{path}, terminal {terminal}: how many", len(screen), len(wanted.replace("\r\n", "\n")) + 1)
+        expect(f"{path}, terminal {terminal}", re.sub(r"[^ -~]", "", screen), re.sub(r"[^ -~]", "", wanted))
+
+
+def check_listing(path):
+    """Each word that is put has its line, and its instruction is that of the comment before it, where there is one."""
+    rows = [row.split(None, 2) for row in shown("listing", path).split("\n") if row.startswith("  ")]
+    said = {}
+    agree = 0
+    for line in texts.read(path):
+        comment = re.match(r"; ([0-7]+)  ([A-Z]+)(?: ([^\s;]+))?\s*(?:;.*)?$", line)
+        if comment and mnemonics.word_said(line):
+            said[int(comment[1], 8)] = (comment[2], names.word_of(comment[2], comment[3] or ""))
+        for put in texts.puts_of(line):
+            address, word, instruction = rows.pop(0)
+            expect(f"{path}: {line}", (int(address, 8), int(word, 8)), (put.address, put.word))
+            name, _, operands = instruction.partition(" ")
+            if put.address in said:
+                agree += 1
+                expect(f"{path}: {instruction} at {address}", (name, names.word_of(name, operands)), said.pop(put.address))
+    expect(f"{path}: lines that are left", rows, [])
+    return agree
+
+
+def check_trace(record, transcript):
+    """Each line of the transcript is there, and a unit that starts where the console put a word has an instruction."""
+    lines = texts.read(transcript)
+    rows = shown("trace", record, transcript).split("\n")[:-1]
+    expect(f"{transcript}: how many lines", len(rows), len(lines))
+    for line, row in zip(lines, rows):
+        if row != line and not (line.startswith("U ") and row.startswith(line + "  ")):
+            fail(f"{transcript}: {row!r} is shown for {line!r}")
+
+
+def check_lanes(record, transcript):
+    """The picture is XML, and its boxes are the units and the idle turns of the record."""
+    entries = texts.entries_of(texts.read(record))
+    for words in ((record,), (record, transcript)):
+        titles = [it.text for it in xml.fromstring(shown("lanes", *words)).iter(SVG + "title")]
+        units = [int(it[1]) for it in (re.search(r": (\d+) units", title) for title in titles) if it]
+        idle = [int(it[1]) for it in (re.match(r"(\d+) idle turns", title) for title in titles) if it]
+        expect(f"{record}: units", units, [it.count for it in entries if it.kind == "units"])
+        expect(f"{record}: idle turns", idle, [it.count for it in entries if it.kind == "idle"])
+
+
+def check_looks(record, transcript):
+    """Each fork that FORKS showed stands in the picture, at the entry that showed it."""
+    entries, lines = texts.entries_of(texts.read(record)), texts.read(transcript)
+    looks = texts.looks_of(entries, lines)
+    told = [shown for at in sorted(looks) for shown in looks[at]]
+    expect(f"{transcript}: the forks that were shown", told, [it for it in map(texts.fork_shown, lines) if it])
+
+
+def check_readme():
+    """The commands in README.md, each with what it prints below it."""
+    blocks = re.findall(r"^    \$ (.*)\n((?:    .*\n)*)", open("view/README.md", encoding="utf-8").read(), re.M)
+    for command, block in blocks:
+        words, _, to = command.partition(" > ")
+        found = shown(*shlex.split(words)[1:])
+        if to:
+            expect(f"{to}, which is not up to date: its length", len(open(to, encoding="utf-8").read()), len(found))
+            expect(f"{to}, which is not up to date", open(to, encoding="utf-8").read() == found, True)
+        else:
+            expect(f"view/README.md: {command}", "\n".join(line.rstrip() for line in found.split("\n")).rstrip("\n"), re.sub("^    ", "", block, flags=re.M).rstrip("\n"))
+    if len(blocks) < len(view.COMMANDS):
+        fail("view/README.md has not an example of each command")
+
+
+def main():
+    agree = 0
+    records = sorted(glob.glob("examples/**/*.record", recursive=True))
+    for record in records:
+        transcript, script = (record.replace(".record", ending) for ending in (".transcript", ".script"))
+        check_screens(transcript)
+        agree += check_listing(script)
+        check_trace(record, transcript)
+        check_lanes(record, transcript)
+        check_looks(record, transcript)
+    check_readme()
+    if failures:
+        sys.exit(1)
+    print(f"view.py: the texts of {len(records)} examples are shown as they are, and {agree} instructions are those of their comments")
+
+
+if __name__ == "__main__":
+    main()
