@@ -2,6 +2,7 @@
 
 A definition reaches each name that it uses: of its own file, or of a file of specs that its file takes the name from. The types and
 constants of the code (`declared`) are counted, and end the way. Status 1: the document says otherwise, and what differs was printed.
+docs/book/make.py prints what is reached.
 """
 import collections
 import glob
@@ -22,53 +23,90 @@ def fail(text):
     print(f"reading.py: FAILED: {text}", file=sys.stderr)
 
 
+class Definition:
+    """A definition: its lines without comments, all its lines, the comment above it, and the modules in which it stands."""
+
+    def __init__(self, comment, within):
+        self.lines = []
+        self.whole = []
+        self.comment = comment
+        self.within = within
+
+
 class File:
-    """The definitions of a file with their lines, the names that it takes from others, and which data a constructor is of."""
+    """The definitions of a file, what it says of itself, the names that it takes from others, and which data a constructor is of."""
 
     def __init__(self, path):
-        self.lines = {}
+        self.path = path
+        self.about = []
+        self.definitions = {}
         self.taken = {}
         self.modules = {}
         self.of_data = {}
-        self.path = path
         self.stray = []
-        name = None
-        base = 0
-        for line in open(path, encoding="utf-8").read().split("\n"):
-            if not line.strip() or line.lstrip().startswith("--") or re.match(r"(?:pub )?mod ", line):
-                continue
-            base = min(base, (len(line) - len(line.lstrip())) // 2 * 2)
-            if re.match(r"module \S+ .*where", line[base:]):
-                base += 2
-                continue
-            line = line[base:]
-            takes = TAKES.match(line)
-            if takes:
-                crate, file, names, short = takes.groups()
-                if names is None:
-                    self.modules[short or file.split(".")[-1]] = (crate, file)
-                for it in (names or "").split(","):
-                    if it.strip():
-                        words = it.split(" as ")
-                        self.taken[words[-1].strip()] = (crate, file, words[0].strip())
-                continue
-            if line.startswith("use "):
-                continue
-            head = re.match(rf"{MARKS}+(\S+)", line) or re.match(r"([^\s=]+) :", line)
-            if head and not line[0].isspace():
-                name = head[1]
-                self.lines[name] = []
-            if name is None:
-                self.stray.append(line)
-                continue
-            self.lines[name].append(line)
-            part = re.match(r"  (?:pub )?(\S+) :", line)
-            if part and re.match(rf"{MARKS}*data ", self.lines[name][0]):
-                self.of_data[part[1]] = name
+        self.comment = []
+        self.within = []
+        self.name = None
+        with open(path, encoding="utf-8") as file:
+            for line in file.read().split("\n"):
+                self.take(line)
+
+    def take(self, line):
+        """Takes the next line of the file."""
+        if not line.strip():
+            self.comment = []
+        elif line.lstrip().startswith("--"):
+            self.comment.append(line)
+        elif line.startswith("use "):
+            self.take_use(line)
+        elif not re.match(r"(?:pub )?mod ", line):
+            self.take_text(line)
+
+    def take_use(self, line):
+        takes = TAKES.match(line)
+        self.about = self.about or self.comment
+        self.comment = []
+        if not takes:
+            return
+        crate, file, names, short = takes.groups()
+        if names is None:
+            self.modules[short or file.split(".")[-1]] = (crate, file)
+        for it in (names or "").split(","):
+            if it.strip():
+                words = it.split(" as ")
+                self.taken[words[-1].strip()] = (crate, file, words[0].strip())
+
+    def take_text(self, line):
+        """A line of a module's head or of a definition."""
+        depth = (len(line) - len(line.lstrip())) // 2
+        self.within = self.within[:depth]
+        base = 2 * len(self.within)
+        if re.match(r"module \S+ .*where", line[base:]):
+            self.within = [*self.within, line[base:]]
+            self.comment = []
+            return
+        self.take_line(line[base:], [it[base:] for it in self.comment])
+        self.comment = []
+
+    def take_line(self, line, comment):
+        head = re.match(rf"{MARKS}+(\S+)", line) or re.match(r"([^\s=]+) :", line)
+        if head and not line[0].isspace():
+            self.name = head[1]
+            self.definitions[self.name] = Definition(comment, self.within)
+            comment = []
+        if self.name is None:
+            self.stray.append(line)
+            return
+        definition = self.definitions[self.name]
+        definition.lines.append(line)
+        definition.whole += [*comment, line]
+        part = re.match(r"  (?:pub )?(\S+) :", line)
+        if part and re.match(rf"{MARKS}*data ", definition.lines[0]):
+            self.of_data[part[1]] = self.name
 
     def named(self, name):
         """The definition that has this name, or the data whose constructor has it."""
-        return name if name in self.lines else self.of_data.get(name)
+        return name if name in self.definitions else self.of_data.get(name)
 
 
 def is_used(name, words):
@@ -77,68 +115,99 @@ def is_used(name, words):
     return name in words
 
 
-files = {}
-for path in glob.glob("crates/*/specs/**/*.antt", recursive=True):
-    crate, file = re.match(r"crates/([^/]+)/specs/(.*)\.antt$", path).groups()
-    files[crate, file.replace("/", ".")] = File(path)
+def read_files():
+    """Each file of specs, by its crate and its name."""
+    files = {}
+    for path in glob.glob("crates/*/specs/**/*.antt", recursive=True):
+        crate, file = re.match(r"crates/([^/]+)/specs/(.*)\.antt$", path).groups()
+        files[crate, file.replace("/", ".")] = File(path)
+    return files
 
-reached = set()
-declared = set()
-todo = [HEADLINE]
-while todo:
-    place = todo.pop()
-    if place in reached:
-        continue
-    reached.add(place)
+
+def declared_place(crate, other, own):
+    """The crate, the module and the name of a type or constant of the code; a variant is its type's."""
+    parts = other.split(".")[1:]
+    if parts[-1] == "TheVariants":
+        return crate, ".".join(parts[:-2]), parts[-2]
+    return crate, ".".join(parts[:-1]), own
+
+
+def uses_of(files, place):
+    """What a definition uses: the places of definitions, and of types and constants of the code."""
     file = files[place[0]]
-    text = "\n".join(line.split(" -- ")[0] for line in file.lines[place[1]])
+    text = "\n".join(line.split(" -- ")[0] for line in file.definitions[place[1]].lines)
     words = set(WORD.findall(text))
-    for name in [*file.lines, *file.of_data]:
-        if is_used(name, words):
-            todo.append((place[0], file.named(name)))
+    uses = {(place[0], file.named(name)) for name in [*file.definitions, *file.of_data] if is_used(name, words)}
+    declared = set()
     for name, (crate, other, own) in file.taken.items():
         if not is_used(name, words):
             continue
         if other.startswith("declared"):
-            declared.add((crate, other.split(".")[-2]) if other.endswith(".TheVariants") else (crate, own))
+            declared.add(declared_place(crate, other, own))
         elif (crate, other) in files:
             if files[crate, other].named(own):
-                todo.append(((crate, other), files[crate, other].named(own)))
+                uses.add(((crate, other), files[crate, other].named(own)))
             else:
                 fail(f"{place[0]}: {own} of {crate}'s {other} isn't found")
     for short, other in file.modules.items():
         for own in re.findall(rf"\b{re.escape(short)}\.([A-Za-z0-9_']+)", text):
             if other in files and files[other].named(own):
-                todo.append((other, files[other].named(own)))
-
-wanted = collections.defaultdict(set)
-for (crate, file), _ in reached:
-    wanted[crate].add(file)
-count = sum(map(len, wanted.values()))
-for file in sorted({file for file, _ in reached}):
-    for line in files[file].stray:
-        fail(f"{files[file].path}: of which definition is the line {line!r}?")
-lines = sum(len(files[file].lines[name]) for file, name in reached)
+                uses.add((other, files[other].named(own)))
+    return uses, declared
 
 
-promises = open("docs/PROMISES.md", encoding="utf-8").read()
-part = promises[promises.index("## What one reads"):promises.index("## Every call returns")]
-found = collections.defaultdict(set)
-for crate, names in re.findall(r"\| (\w+) \| ((?:`\w+`(?:, )?)+) \|", part):
-    found[crate] |= set(re.findall(r"`(\w+)`", names))
-for crate in sorted(set(wanted) | set(found)):
-    for name in sorted(wanted[crate] - found[crate]):
-        fail(f"docs/PROMISES.md lacks {name} of {crate}")
-    for name in sorted(found[crate] - wanted[crate]):
-        fail(f"docs/PROMISES.md names {name} of {crate}, which the headline does not reach")
-if f"these {count} files" not in part:
-    fail(f"docs/PROMISES.md does not say 'these {count} files'")
-said = re.search(r"some ([\d,]+) definitions of ([\d,]+) lines.* and some ([\d,]+) types and constants", part)
-for what, is_now, text in zip(("definitions", "lines", "types and constants"), (len(reached), lines, len(declared)), said.groups() if said else ("0",) * 3):
-    number = int(text.replace(",", ""))
-    if abs(number - is_now) * 20 > is_now:
-        fail(f"docs/PROMISES.md says {number} {what}, and there are {is_now}")
+def reach(files):
+    """What each definition uses that the headline reaches."""
+    reached = {}
+    todo = [HEADLINE]
+    while todo:
+        place = todo.pop()
+        if place not in reached:
+            reached[place] = uses_of(files, place)
+            todo += reached[place][0]
+    return reached
 
-if failures:
-    sys.exit(1)
-print(f"reading.py: the headline rests on {count} files, {len(reached)} definitions of {lines} lines, and {len(declared)} types and constants")
+
+def compare(wanted, document, said, pattern):
+    found = collections.defaultdict(set)
+    for crate, names in re.findall(pattern, said):
+        found[crate] |= set(re.findall(r"`(\w+)`", names))
+    for crate in sorted(set(wanted) | set(found)):
+        for name in sorted(wanted[crate] - found[crate]):
+            fail(f"{document} lacks {name} of {crate}")
+        for name in sorted(found[crate] - wanted[crate]):
+            fail(f"{document} names {name} of {crate}, which the headline does not reach")
+    if f"these {sum(map(len, wanted.values()))} files" not in said:
+        fail(f"{document} does not say 'these {sum(map(len, wanted.values()))} files'")
+
+
+def main():
+    files = read_files()
+    reached = reach(files)
+    declared = {place[::2] for _, used in reached.values() for place in used}
+    wanted = collections.defaultdict(set)
+    for (crate, file), _ in reached:
+        wanted[crate].add(file)
+    for file in sorted({file for file, _ in reached}):
+        for line in files[file].stray:
+            fail(f"{files[file].path}: of which definition is the line {line!r}?")
+    lines = sum(len(files[file].definitions[name].lines) for file, name in reached)
+
+    with open("docs/PROMISES.md", encoding="utf-8") as file:
+        promises = file.read()
+    part = promises[promises.index("## What one reads"):promises.index("## Every call returns")]
+    compare(wanted, "docs/PROMISES.md", part, r"\| (\w+) \| ((?:`\w+`(?:, )?)+) \|")
+    said = re.search(r"some ([\d,]+) definitions of ([\d,]+) lines.* and some ([\d,]+) types and constants", part)
+    for what, is_now, text in zip(("definitions", "lines", "types and constants"), (len(reached), lines, len(declared)), said.groups() if said else ("0",) * 3):
+        number = int(text.replace(",", ""))
+        if abs(number - is_now) * 20 > is_now:
+            fail(f"docs/PROMISES.md says {number} {what}, and there are {is_now}")
+
+    if failures:
+        sys.exit(1)
+    count = sum(map(len, wanted.values()))
+    print(f"reading.py: the headline rests on {count} files, {len(reached)} definitions of {lines} lines, and {len(declared)} types and constants")
+
+
+if __name__ == "__main__":
+    main()
