@@ -1,0 +1,39 @@
+"""What both forms of the book say alike: the preface, heads, and the short form of a constant."""
+
+TITLE = "The definitions that the headline rests on"
+MOST_USERS = 8
+
+HOW_TO_READ = [
+    "This book has every definition that one reads to know what is promised of tenex: that the transcript of a run is that of a plain "
+    "machine, and the record its entries. It has no proof and no code but for the types and constants that the definitions name. "
+    "The first chapter is the promise; the others give its words their meaning, in an order in which a definition needs those before it.",
+    "A definition begins with its type, and then has a line for each case. A record lists what holds together; its fields have names. "
+    "A name whose type ends in Type 0 is a statement, or a kind of things. \u2261 is equality, \u00d7 is and, \u228e is or, \u22a5 is what never "
+    "holds, and an arrow from a statement to another is if. (x : A) \u00d7 B says that there is an x with B, and (x : A) \u2192 B that each x has B. "
+    "A list is [] or a first element \u2237 the others; ++ puts lists one behind the other; \u03bb x. e is the function that answers e. "
+    "The words pub, abbrev and unfoldable tell the prover who may see a definition and when it is opened; they do not change what it says. "
+    "A line 'module _ .. where' above a definition names what it takes besides, for all of which it holds.",
+    "Numbers are written as 0o17 in octal. A type or constant of the code stands as the code has it.",
+]
+FROM_STD = "These names are those of the toolchain's standard library, by the file of its specs that has them."
+
+
+def counts(book):
+    definitions = [entry for entry in book.entries if not entry.is_code]
+    lines = sum(1 for entry in definitions for line in entry.lines if not line.lstrip().startswith("--"))
+    return f"{len(definitions)} definitions of {lines} lines, and {len(book.entries) - len(definitions)} types and constants."
+
+
+def constant(entry):
+    """A constant without its marks."""
+    return " ".join(line.strip() for line in entry.lines).removeprefix("pub const ").removeprefix("pub static ").removesuffix(";")
+
+
+def users(entry):
+    """Who uses an entry, the first of them, and how many there are more."""
+    return entry.used_by[:MOST_USERS], max(0, len(entry.used_by) - MOST_USERS)
+
+
+def index(book):
+    """The entries by name."""
+    return sorted(book.entries, key=lambda entry: (entry.name.lower(), entry.name, [int(it) for it in entry.number.split(".")]))
