@@ -97,6 +97,14 @@ def check_looks(record, transcript):
     expect(f"{transcript}: the forks that were shown", told, [it for it in map(texts.fork_shown, lines) if it])
 
 
+def check_page():
+    """The names in record.html are those of now."""
+    with open(names.PAGE, encoding="utf-8") as file:
+        page = file.read()
+    if names.page_with_names(page) != page:
+        fail("view/record.html has other names of instructions than the assembler; view/names.py writes them")
+
+
 def check_readme():
     """The commands in README.md, each with what it prints below it."""
     blocks = re.findall(r"^    \$ (.*)\n((?:    .*\n)*)", open("view/README.md", encoding="utf-8").read(), re.M)
@@ -122,6 +130,7 @@ def main():
         check_trace(record, transcript)
         check_lanes(record, transcript)
         check_looks(record, transcript)
+    check_page()
     check_readme()
     if failures:
         sys.exit(1)

@@ -1,8 +1,14 @@
-"""The names of instructions and monitor calls, read from the assembler's own table: crates/asm_core/src/names.rt."""
+"""The names of instructions and monitor calls, read from the assembler's own table: crates/asm_core/src/names.rt.
+
+    view/names.py        writes the names into record.html, which can't read a file beside it
+"""
 import os
 import re
+import textwrap
 
-TABLE = os.path.join(os.path.dirname(os.path.abspath(__file__)), "..", "crates", "asm_core", "src", "names.rt")
+HERE = os.path.dirname(os.path.abspath(__file__))
+TABLE = os.path.join(HERE, "..", "crates", "asm_core", "src", "names.rt")
+PAGE = os.path.join(HERE, "record.html")
 GROUP = re.compile(r'in_group\(\s*word,\s*0o([0-7]+),\s*(\d+),\s*(b"[^"]*"|\w+),\s*(\d+),\s*(b"[^"]*"|\w+),?\s*\)')
 OPERANDS = re.compile(r"(?:([0-7]+),)?(@)?([0-7]*)(?:\(([0-7]+)\))?")
 JSYS = 0o104
@@ -63,3 +69,23 @@ def word_of(name, operands):
         return None
     ac, indirect, address, index = fields.groups()
     return (OPCODES[name] << 27) + (int(ac or "0", 8) << 23) + (bool(indirect) << 22) + (int(index or "0", 8) << 18) + int(address or "0", 8)
+
+
+def lines_for_page(constant, table):
+    pairs = " ".join(f"{number:o}={name}" for name, number in sorted(table.items(), key=lambda it: it[1]))
+    return f"const {constant} = `\n{textwrap.fill(pairs, 118)}`;\n"
+
+
+def page_with_names(page):
+    """The text of record.html with the names of now."""
+    begin, end = "// names begin\n", "// names end\n"
+    before, rest = page.split(begin)
+    names = lines_for_page("OPCODE_NAMES", OPCODES) + lines_for_page("CALL_NAMES", CALLS)
+    return before + begin + names + end + rest.split(end)[1]
+
+
+if __name__ == "__main__":
+    with open(PAGE, encoding="utf-8") as _file:
+        _page = _file.read()
+    with open(PAGE, "w", encoding="utf-8") as _file:
+        _file.write(page_with_names(_page))
