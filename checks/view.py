@@ -1,6 +1,7 @@
 """Whether view/ shows what the texts of the examples say: each command runs on each example, and README.md of view/ shows what its
 commands print now. Status 1: something does not fit, and each was printed.
 """
+import collections
 import contextlib
 import glob
 import io
@@ -79,14 +80,16 @@ def check_trace(record, transcript):
 
 
 def check_lanes(record, transcript):
-    """The picture is XML, and its boxes are the units and the idle turns of the record."""
-    entries = texts.entries_of(texts.read(record))
+    """The picture is XML, and its boxes have the units of each fork and the idle turns of the record."""
+    wanted = collections.Counter()
+    for it in texts.entries_of(texts.read(record)):
+        wanted[it.fork] += it.count
     for words in ((record,), (record, transcript)):
-        titles = [it.text for it in xml.fromstring(shown("lanes", *words)).iter(SVG + "title")]
-        units = [int(it[1]) for it in (re.search(r": (\d+) units", title) for title in titles) if it]
-        idle = [int(it[1]) for it in (re.match(r"(\d+) idle turns", title) for title in titles) if it]
-        expect(f"{record}: units", units, [it.count for it in entries if it.kind == "units"])
-        expect(f"{record}: idle turns", idle, [it.count for it in entries if it.kind == "idle"])
+        found = collections.Counter()
+        for title in (it.text for it in xml.fromstring(shown("lanes", *words)).iter(SVG + "title")):
+            units, idle = re.match(r"T(\d+) fork (\d+): (\d+) units in", title), re.match(r"(\d+) idle in", title)
+            found[(int(units[1]), int(units[2])) if units else None] += int(units[3] if units else idle[1] if idle else 0)
+        expect(f"{record}: turns by fork", +found, +wanted)
 
 
 def check_looks(record, transcript):

@@ -51,21 +51,35 @@ class Lanes:
             yield text(10, y - 12, f"T{fork[0]} fork {fork[1]}", ' font-size="13"')
             yield f'<path d="M{LEFT} {y}H{WIDTH - 20}" stroke="#cccccc"/>'
 
+    def stretches(self):
+        """Where a fork ran, or none could: the lane, the turns before and behind, and how many of them are its own. Two that are less than
+        half a pixel apart are one."""
+        open_now = {}
+        for turn, entry, _ in self.entries:
+            if entry.kind == "event":
+                continue
+            since, end, count = open_now.get(entry.fork, (turn, turn, 0))
+            if self.x(turn) - self.x(end) >= 0.5:
+                yield entry.fork, since, end, count
+                since, count = turn, 0
+            open_now[entry.fork] = since, turn + entry.count, count + entry.count
+        yield from ((fork, *it) for fork, it in open_now.items())
+
     def turns_drawn(self):
         """The boxes of units, and hatched over all lanes the idle turns."""
-        for turn, entry, _ in self.entries:
-            x = self.x(turn)
-            wide = self.x(turn + entry.count) - x
-            if entry.kind == "units":
-                title = f"T{entry.fork[0]} fork {entry.fork[1]}: {entry.count} units from turn {turn + 1} on"
-                yield box(x, self.y(entry.fork) + 20, wide, LANE - 26, FORK, title)
-            elif entry.kind == "idle":
-                yield box(x, TOP, wide, self.bottom - TOP, "url(#idle)", f"{entry.count} idle turns from turn {turn + 1} on: no fork can run")
-                if wide > LETTER * (6 + len(str(entry.count))):
-                    yield text(x + wide / 2, self.bottom + 14, f"{entry.count} idle", ' text-anchor="middle"')
+        for fork, since, end, count in self.stretches():
+            x = self.x(since)
+            wide = self.x(end) - x
+            turns = f"turn {since + 1}" if end == since + 1 else f"turns {since + 1} to {end}"
+            if fork:
+                yield box(x, self.y(fork) + 20, wide, LANE - 26, FORK, f"T{fork[0]} fork {fork[1]}: {count} units in {turns}")
+                continue
+            yield box(x, TOP, wide, self.bottom - TOP, "url(#idle)", f"{count} idle in {turns}: no fork could run")
+            if wide > LETTER * (6 + len(str(count))):
+                yield text(x + wide / 2, self.bottom + 14, f"{count} idle", ' text-anchor="middle"')
 
     def console(self):
-        """A tick for each moment at which the console has events, and the first of them in words where there is room."""
+        """A tick for each moment at which the console has events, and the last of them in words where there is room."""
         yield text(10, TOP - 14, "console")
         moments = {}
         for turn, entry, _ in self.entries:

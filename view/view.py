@@ -8,6 +8,8 @@
 
 It reads texts alone. Each file is one of the three of a run; /dev/stdin is standard input. The picture is written to standard output.
 """
+import re
+import signal
 import sys
 
 import lanes as picture
@@ -22,6 +24,8 @@ def seen(characters):
 
 
 def screen(terminal, transcript):
+    if not re.fullmatch("[0-9]{1,2}", terminal):
+        raise texts.BadText(f"a terminal is a number, and this is none: {terminal}")
     parts = map(texts.typed_by, texts.read(transcript))
     print(seen("".join(part[1] for part in parts if part and part[0] == int(terminal))))
 
@@ -72,11 +76,11 @@ def trace(record, transcript):
     memory = Memory()
     units = traced_units(texts.read(record), memory)
     for line in texts.read(transcript):
-        words = line.split()
-        if words[0] != "U":
+        unit = re.fullmatch(r"U (\d+) (\d+) ([0-7]{6})", line)
+        if not unit:
             print(line)
             continue
-        terminal, serial, address = int(words[1]), int(words[2]), int(words[3], 8)
+        terminal, serial, address = int(unit[1]), int(unit[2]), int(unit[3], 8)
         if next(units, None) != (terminal, serial):
             raise texts.BadText(f"the record has no such unit here: {line}")
         word = memory.word_at(terminal, address)
@@ -102,4 +106,5 @@ def main(words):
 
 
 if __name__ == "__main__":
+    signal.signal(signal.SIGPIPE, signal.SIG_DFL)
     main(sys.argv[1:])

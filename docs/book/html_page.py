@@ -10,7 +10,8 @@ body { margin: 0 auto; max-width: 60rem; padding: 1rem; background: var(--page);
 h1, h2 { line-height: 1.2; } h3 { margin: 2rem 0 0; } h2 { margin-top: 3rem; border-top: 1px solid var(--line); padding-top: 1rem; }
 a { color: var(--link); } pre a { text-decoration: none; } pre a:hover, pre a:focus { text-decoration: underline; }
 pre, code { font-family: ui-monospace, "DejaVu Sans Mono", Menlo, Consolas, monospace; font-size: 0.85rem; }
-pre { background: var(--code); padding: 0.5rem 0.7rem; margin: 0.2rem 0; white-space: pre-wrap; overflow-wrap: anywhere; padding-left: 2.2rem; text-indent: -1.5rem; }
+pre { background: var(--code); padding: 0.5rem 0.7rem; margin: 0.2rem 0; white-space: pre-wrap; overflow-wrap: anywhere; }
+pre code { display: block; padding-left: 3rem; text-indent: -3rem; }
 article { margin: 1.2rem 0; scroll-margin-top: 0.5rem; } article p { margin: 0; } .soft { color: var(--soft); font-size: 0.85rem; }
 article:target, tr:target { outline: 2px solid var(--link); outline-offset: 4px; }
 table { border-collapse: collapse; margin: 1rem 0; } td { padding: 0.1rem 0.8rem 0.1rem 0; vertical-align: top; }
@@ -38,11 +39,17 @@ def used_by(entry):
     return f'<p class="soft">Used by {names}{f" and {more} more" if more else ""}.</p>'
 
 
+def lines_of(entry):
+    """The lines of a definition, with its own name in bold where it is first told, each a block of its own."""
+    first, *others = map(line_of, entry.pieces)
+    name = escape(entry.name)
+    lines = [*(f"<i>{escape(line)}</i>" for line in entry.within), first.replace(f" {name}", f" <b>{name}</b>", 1), *others]
+    return "".join(f"<code>{line}</code>" for line in lines)
+
+
 def article(entry):
-    within = "".join(f"<i>{escape(line)}</i>\n" for line in entry.within)
-    lines = "\n".join(map(line_of, entry.pieces))
     return (f'<article id="{entry.number}"><p><span class="soft">{entry.number}</span> {escape(entry.comment)}</p>\n'
-            f"<pre>{within}{lines}</pre>{used_by(entry)}</article>")
+            f"<pre>{lines_of(entry)}</pre>{used_by(entry)}</article>")
 
 
 def row(entry):
