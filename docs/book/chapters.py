@@ -2,7 +2,7 @@
 import re
 import sys
 
-import code
+import code_items
 import reading
 
 TOKEN = re.compile(r"(?<![\w.'])(?:(\w+)\.)?([A-Za-z_◌][A-Za-z0-9_'◌]*)")
@@ -200,7 +200,7 @@ def read(path):
     """The whole book."""
     files = reading.read_files()
     reached = reading.reach(files)
-    all_code = code.Code()
+    all_code = code_items.Code()
     wanted = all_code.reach({(crate, name) for _, declared in reached.values() for crate, _, name in declared})
     chapters = read_chapters(path)
     for number, chapter in enumerate(chapters, 1):
