@@ -94,7 +94,7 @@ def from_std(book):
 
 def page(book):
     """The whole page."""
-    preface = "\n".join(f"<p>{escape(text)}</p>" for text in [*wording.HOW_TO_READ, f"There are {wording.counts(book)}"])
+    preface = "\n".join(f"<p>{escape(text)}</p>" for text in wording.preface(book))
     chapters = "\n".join(section(n, chapter) for n, chapter in enumerate(book.chapters, 1))
     return (f'<!doctype html>\n<html lang="en">\n<meta charset="utf-8">\n<meta name="viewport" content="width=device-width">\n<title>{wording.TITLE}</title>\n'
             f"<style>{STYLE}</style>\n<main>\n<h1>{wording.TITLE}</h1>\n{preface}\n{contents(book)}\n{chapters}\n{from_std(book)}\n{index(book)}\n</main>\n</html>\n")

@@ -59,7 +59,7 @@ def index(book):
 def text(book):
     """The whole text."""
     lines = [wording.TITLE, "=" * len(wording.TITLE), ""]
-    for paragraph in [*wording.HOW_TO_READ, f"There are {wording.counts(book)}"]:
+    for paragraph in wording.preface(book):
         lines += [*wrapped(paragraph), ""]
     lines += [f"{n:4}. {chapter.title}" for n, chapter in enumerate(book.chapters, 1)]
     for number, chapter in enumerate(book.chapters, 1):

@@ -6,7 +6,7 @@ MOST_USERS = 8
 HOW_TO_READ = [
     "This book has every definition that one reads to know what is promised of tenex: that the transcript of a run is that of a plain "
     "machine, and the record its entries. It has no proof and no code but for the types and constants that the definitions name. "
-    "The first chapter is the promise; the others give its words their meaning, in an order in which a definition needs those before it.",
+    "The first chapter is the promise; the others give its words their meaning.",
     "A definition begins with its type, and then has a line for each case. A record lists what holds together; its fields have names. "
     "A name whose type ends in Type 0 is a statement, or a kind of things. \u2261 is equality, \u00d7 is and, \u228e is or, \u22a5 is what never "
     "holds, and an arrow from a statement to another is if. (x : A) \u00d7 B says that there is an x with B, and (x : A) \u2192 B that each x has B. "
@@ -18,10 +18,26 @@ HOW_TO_READ = [
 FROM_STD = "These names are those of the toolchain's standard library, by the file of its specs that has them."
 
 
+def preface(book):
+    """The paragraphs before the first chapter."""
+    return [*HOW_TO_READ, f"There are {counts(book)} {order(book)}"]
+
+
 def counts(book):
     definitions = [entry for entry in book.entries if not entry.is_code]
     lines = sum(1 for entry in definitions for line in entry.lines if not line.lstrip().startswith("--"))
     return f"{len(definitions)} definitions of {lines} lines, and {len(book.entries) - len(definitions)} types and constants."
+
+
+def place(entry):
+    return [int(it) for it in entry.number.split(".")]
+
+
+def order(book):
+    """Whether what a definition uses stands before it, behind the first chapter."""
+    ahead = sum(place(used) > place(entry) for entry in book.entries if place(entry)[0] > 1 for used in entry.uses)
+    but = f", but for {ahead} names" if ahead else ""
+    return f"Behind the first chapter all that a definition uses stands before it{but}."
 
 
 def constant(entry):
@@ -36,4 +52,4 @@ def users(entry):
 
 def index(book):
     """The entries by name."""
-    return sorted(book.entries, key=lambda entry: (entry.name.lower(), entry.name, [int(it) for it in entry.number.split(".")]))
+    return sorted(book.entries, key=lambda entry: (entry.name.lower(), entry.name, place(entry)))
