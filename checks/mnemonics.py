@@ -59,20 +59,21 @@ def calls_are_named(path, lines):
         if names.word_of(name, "") in words and name not in named:
             fail(f"{path} has no comment with {name}")
 
-def index_is_whole():
-    """The index of the machine's document has each call with its number, and each name of an instruction with its opcode."""
-    with open("docs/MACHINE.md", encoding="utf-8") as file:
+
+def compare_index(document):
+    """The index of the machine's document: each call with its number, and each name of an instruction with its opcode."""
+    with open(document, encoding="utf-8") as file:
         index = file.read().partition("\n## Index\n")[2]
     indexed = dict(re.findall(r"\b([A-Z]{2,6}) ([0-7]{2,3})\b", index))
     for name, number in names.CALLS.items():
         if indexed.pop(name, "") != f"{number:o}":
-            fail(f"the index of docs/MACHINE.md does not have {name} {number:o}")
+            fail(f"the index of {document} does not have {name} {number:o}")
     for name, number in indexed.items():
         if names.OPCODES.get(name) != int(number, 8):
-            fail(f"the index of docs/MACHINE.md has {name} {number}")
+            fail(f"the index of {document} has {name} {number}")
     for name, opcode in names.OPCODES.items():
         if name not in indexed and not any(name[:n] in indexed for n in range(2, len(name))):
-            fail(f"the index of docs/MACHINE.md lacks {name} {opcode:o}")
+            fail(f"the index of {document} lacks {name} {opcode:o}")
 
 
 def main():
@@ -85,7 +86,7 @@ def main():
             fail(f"{path} does not open with a comment")
         comments += compare(path, lines)
         calls_are_named(path, lines)
-    index_is_whole()
+    compare_index("docs/MACHINE.md")
     if failures:
         sys.exit(1)
     print(f"mnemonics.py: {comments} comments of {len(scripts)} examples are those of their words")

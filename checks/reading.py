@@ -168,17 +168,19 @@ def reach(files):
     return reached
 
 
-def compare(wanted, document, said, pattern):
+def compare(wanted, said):
+    """Compares the files, by crate, with those of the document's table."""
     found = collections.defaultdict(set)
-    for crate, names in re.findall(pattern, said):
+    for crate, names in re.findall(r"\| (\w+) \| ((?:`\w+`(?:, )?)+) \|", said):
         found[crate] |= set(re.findall(r"`(\w+)`", names))
     for crate in sorted(set(wanted) | set(found)):
         for name in sorted(wanted[crate] - found[crate]):
-            fail(f"{document} lacks {name} of {crate}")
+            fail(f"docs/PROMISES.md lacks {name} of {crate}")
         for name in sorted(found[crate] - wanted[crate]):
-            fail(f"{document} names {name} of {crate}, which the headline does not reach")
-    if f"these {sum(map(len, wanted.values()))} files" not in said:
-        fail(f"{document} does not say 'these {sum(map(len, wanted.values()))} files'")
+            fail(f"docs/PROMISES.md names {name} of {crate}, which the headline does not reach")
+    count = sum(map(len, wanted.values()))
+    if f"these {count} files" not in said:
+        fail(f"docs/PROMISES.md does not say 'these {count} files'")
 
 
 def main():
@@ -196,7 +198,7 @@ def main():
     with open("docs/PROMISES.md", encoding="utf-8") as file:
         promises = file.read()
     part = promises[promises.index("## What one reads"):promises.index("## Every call returns")]
-    compare(wanted, "docs/PROMISES.md", part, r"\| (\w+) \| ((?:`\w+`(?:, )?)+) \|")
+    compare(wanted, part)
     said = re.search(r"some ([\d,]+) definitions of ([\d,]+) lines.* and some ([\d,]+) types and constants", part)
     for what, is_now, text in zip(("definitions", "lines", "types and constants"), (len(reached), lines, len(declared)), said.groups() if said else ("0",) * 3):
         number = int(text.replace(",", ""))
