@@ -1,3 +1,7 @@
+use number_laws::{
+    bounds_are_these, calls_have_these_numbers, channels_have_these_numbers, characters_are_these,
+    errors_have_these_codes, handles_are_these, sizes_are_these, turns_are_this_long,
+};
 use plain_laws::{
     access_is_that_of_all_entries, chains_are_short, copies_are_made_once, empty_script,
     entries_fit, first_script, followers_read_the_followed, frozen_forks_run_when_resumed,
@@ -28,5 +32,18 @@ fn the_laws_are_called(_rt: HostRuntime) -> Result<(), Fail> {
     killed_forks_take_their_pages();
     frozen_forks_run_when_resumed();
     units_leave_other_jobs();
+    Ok(())
+}
+
+#[test]
+fn the_numbers_are_told(_rt: HostRuntime) -> Result<(), Fail> {
+    characters_are_these();
+    bounds_are_these();
+    turns_are_this_long();
+    sizes_are_these();
+    calls_have_these_numbers();
+    errors_have_these_codes();
+    handles_are_these();
+    channels_have_these_numbers();
     Ok(())
 }
