@@ -23,11 +23,14 @@ pub(crate) struct Range {
 
 /// The fewest page frames of core that a run may have, the most, and how many it has where no option says.
 pub const LEAST_FRAMES: u32 = 160;
+
 pub const MOST_FRAMES: u32 = 8192;
+
 pub const STANDARD_FRAMES: u32 = 256;
 
 /// The fewest pages of the drum, and how many a run has where no option says; the most are `MOST_DRUM_PAGES`.
 pub const LEAST_DRUM_PAGES: u32 = 256;
+
 pub const STANDARD_DRUM_PAGES: u32 = 2048;
 
 pub(crate) const FRAMES: Range = Range {
