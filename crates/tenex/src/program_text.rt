@@ -4,40 +4,13 @@ use outside::{Failed, Source};
 use script_lang::MOST_LINE;
 use std::alloc::Global;
 
-/// A source, and all that was read of it. Where there was no memory for a piece, nothing is kept any more.
+// What was read, piece by piece. Where there was no memory for a piece, nothing is kept any more.
 #[derive(Drop)]
-pub struct Kept<S: Source> {
-    source: S,
+struct Pieces {
     text: Option<Vec<u8>>,
 }
 
-impl<S: Source> Kept<S> {
-    /// Nothing was read yet.
-    pub fn new(alloc: Global, source: S) -> Self {
-        Kept {
-            source,
-            text: Some(Vec::new(alloc)),
-        }
-    }
-
-    /// The source.
-    pub fn source(&self) -> &S {
-        &self.source
-    }
-
-    /// The line of this number, counted from 1, and what is wrong with it where it is bad.
-    pub fn bad(&self, number: u64) -> Option<BadLine<'_>> {
-        let text = self.text.as_ref()?;
-        let mut lines = 0u64;
-        for piece in text.split_inclusive(|c| *c == b'\n') {
-            lines = lines.saturating_add(1);
-            if lines == number {
-                return Some(bad_line(number, piece));
-            }
-        }
-        None
-    }
-
+impl Pieces {
     // Keeps a piece too.
     fn keep(&mut self, piece: &[u8]) {
         let kept = match &mut self.text {
@@ -47,6 +20,19 @@ impl<S: Source> Kept<S> {
         if !kept {
             self.text = None;
         }
+    }
+
+    // The line of this number, counted from 1, and what is wrong with it where it is bad.
+    fn line(&self, number: u64) -> Option<BadLine<'_>> {
+        let text = self.text.as_ref()?;
+        let mut lines = 0u64;
+        for piece in text.split_inclusive(|c| *c == b'\n') {
+            lines = lines.saturating_add(1);
+            if lines == number {
+                return Some(bad_line(number, piece));
+            }
+        }
+        None
     }
 }
 
@@ -65,6 +51,35 @@ fn bad_line(number: u64, piece: &[u8]) -> BadLine<'_> {
     }
 }
 
+/// A source, and all that was read of it.
+#[derive(Drop)]
+pub struct Kept<S: Source> {
+    source: S,
+    pieces: Pieces,
+}
+
+impl<S: Source> Kept<S> {
+    /// Nothing was read yet.
+    pub fn new(alloc: Global, source: S) -> Self {
+        Kept {
+            source,
+            pieces: Pieces {
+                text: Some(Vec::new(alloc)),
+            },
+        }
+    }
+
+    /// The source.
+    pub fn source(&self) -> &S {
+        &self.source
+    }
+
+    /// The line of this number, counted from 1, and what is wrong with it where it is bad.
+    pub fn bad(&self, number: u64) -> Option<BadLine<'_>> {
+        self.pieces.line(number)
+    }
+}
+
 impl<S: Source> Source for Kept<S> {
     ghost fault_count = { λ k. S.fault_count k.source };
 
@@ -78,7 +93,7 @@ impl<S: Source> Source for Kept<S> {
     fn read(&mut self, piece: &mut [u8]) -> Result<usize, Failed> {
         let count = self.source.read(piece)?;
         if count > 0 {
-            self.keep(&piece[..count]);
+            self.pieces.keep(&piece[..count]);
         }
         Ok(count)
     }
