@@ -1,5 +1,6 @@
 """The laws of docs/PROMISES.md, printed from the comments above them: of each crate its public functions with an empty body, whose
-contract is the law. `laws.py --write` puts them into the document. Status 1: the document has others, and what differs was printed.
+contract is the law. `laws.py --write` puts them into the document. A crate's README leads there, and has no row of its own for a law.
+Status 1: the document has others, or a README has one, and what differs was printed.
 """
 import difflib
 import glob
@@ -50,6 +51,7 @@ def tables():
         rows = [(path, name, says) for path in sorted(glob.glob(f"crates/{crate}/src/**/*.rt", recursive=True)) for name, says in laws_of(path)]
         if not rows:
             continue
+        check_readme(crate, {name for _, name, _ in rows})
         yield f"### {crate}\n\n| Law | What it says |\n|---|---|\n"
         for path, name, says in rows:
             if not says:
@@ -58,6 +60,15 @@ def tables():
             says = says.replace("|", "\\|")
             yield f"| [`{name}`]({os.path.relpath(path, 'docs')}) | {says} |\n"
         yield "\n"
+
+
+def check_readme(crate, names):
+    """Whether the README of a crate leaves its laws to the document."""
+    path = f"crates/{crate}/README.md"
+    for name in re.findall(r"^\| `(\w+)` \|", text_of(path), re.M):
+        if name in names:
+            print(f"laws.py: FAILED: {path} says the law {name} again", file=sys.stderr)
+            sys.exit(1)
 
 
 document = text_of(DOCUMENT)
