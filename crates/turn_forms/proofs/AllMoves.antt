@@ -1,6 +1,7 @@
 -- The lists that follow all jobs, where nobody stops, are those behind the moves.
 use Rattle.std.proofs.Common.{◌≡◌, ◌≢◌, ℕ, zero, suc, ◌+◌, ◌<◌, ◌≤◌, Bool, true, false, cond, not, ◌&&◌, ◌||◌, List, [], ◌∷◌, ◌++◌, map, filter, Option, None, Some, refl, sym, ◌∙◌, ap, inl, inr, arith}
 use Rattle.std.proofs.lemmas.Bool.{cases_Bool, or_parts}
+use Rattle.std.proofs.Math.Bool.{or-false}
 use Rattle.std.proofs.lemmas.List.{map-append}
 use Rattle.std.proofs.lemmas.List.Elements.{filter-append}
 use Rattle.std.specs.List.{cons_option, filter_map, flat_map, list_any, range_with_len}
@@ -22,10 +23,6 @@ use Rattle.fork_lists.proofs.Folds.{stands_started}
 use Rattle.turn_forms.specs.Turns.{KeepSlots, moved}
 use Rattle.turn_forms.proofs.JobMoves.{followed_moves, gains, loses, names_in}
 use Rattle.turn_forms.proofs.Nothing.{all_fail, moved_both, moved_filled}
-
-or_false : (b : Bool) → (b || false) ≡ b
-or_false true = refl
-or_false false = refl
 
 -- of those that pass one test none passes another
 module _ {A : Type 0} (p q : A → Bool) (apart : (x : A) → p x ≡ true → q x ≡ false) where
@@ -61,7 +58,7 @@ stands_others : (g : ForkName) (fs : List ForkName) (s : Schedule) → list_any 
 stands_others g [] s none = refl
 stands_others g (f ∷ fs) s none =
     let parts = or_parts (same_fork f g) (list_any (λ h. same_fork h g) fs) none in
-    stands_others g fs (started s f) parts.1 ∙ stands_started f g s ∙ ap (λ b. stands g s || b) parts.0 ∙ or_false (stands g s)
+    stands_others g fs (started s f) parts.1 ∙ stands_started f g s ∙ ap (λ b. stands g s || b) parts.0 ∙ or-false (stands g s)
 
 -- a fork of another job isn't among those of one
 not_there : (forks : ForkMap) → AreSlotted forks → (t : Tty) (g : ForkName) → g.tty.0 ≢ t.0 → (p : ForkName → Bool) (slots : List ℕ) → list_any (λ f. same_fork f g) (filter p (names_in forks t slots)) ≡ false

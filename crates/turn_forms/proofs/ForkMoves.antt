@@ -1,6 +1,7 @@
 -- The lists that follow one fork, and one that it may have made, are those behind their moves.
 use Rattle.std.proofs.Common.{◌≡◌, ◌≢◌, ℕ, ◌<◌, Bool, true, false, cond, not, ◌&&◌, ◌||◌, List, [], ◌∷◌, ◌++◌, map, filter, Option, None, Some, refl, sym, ◌∙◌, ap, subst, inl, inr}
 use Rattle.std.proofs.lemmas.Bool.{cases_Bool}
+use Rattle.std.proofs.Math.Bool.{and-false, or-true}
 use Rattle.std.specs.List.{cons_option, filter_map, list_any}
 use Rattle.std.specs.Option.{option_map_or}
 use Rattle.std.specs.FinMap as finite
@@ -12,7 +13,7 @@ use Rattle.plain_model.specs.declared.fork.Fork.{Fork}
 use Rattle.plain_model.specs.Forks.{ForkMap, can_run, fork_in, runs_in}
 use Rattle.plain_model.specs.Moves.{Stops, Starts, moves, names_of, waits_in}
 use Rattle.plain_model.specs.Trees.{PlainTree}
-use Rattle.plain_model.proofs.ForkMaps.{cases_name, names_same, same_itself}
+use Rattle.plain_model.proofs.ForkMaps.{both_first, cases_name, names_same, same_itself}
 use Rattle.fork_tree.specs.Trees.{AreSlotted, IsTree}
 use Rattle.fork_tree.specs.Making.{last_name}
 use Rattle.fork_tree.proofs.Slots.{held_lives}
@@ -28,16 +29,12 @@ use Rattle.fork_lists.proofs.Chosen.{test_filled}
 use Rattle.fork_lists.proofs.Folds.{IsAmong, stands_started, stands_stopped, stop_filled, stop_one}
 use Rattle.fork_lists.proofs.Tied.{at_slot, runs_lives, some_is}
 use Rattle.turn_forms.specs.Turns.{moved}
-use Rattle.turn_forms.proofs.JobMoves.{gains, loses, names_here, names_in}
+use Rattle.turn_forms.proofs.JobMoves.{and_not, gains, loses, names_here, names_in}
 use Rattle.turn_forms.proofs.Nothing.{all_fail, moved_both, started_none, stopped_none}
 
-or_true : (b : Bool) → (b || true) ≡ true
-or_true true = refl
-or_true false = refl
-
-and_none : (b : Bool) → (b && false) ≡ false
-and_none true = refl
-and_none false = refl
+either : (b : Bool) (u : Schedule) → cond b u u ≡ u
+either true u = refl
+either false u = refl
 
 -- another name isn't this one
 apart_names : (f g : ForkName) → f ≢ g → same_fork g f ≡ false
@@ -61,7 +58,7 @@ name_in forks t slot g is (k ∷ slots) (inr later) = by (name_in forks t slot g
   where
     by : has_name g.name (names_in forks t slots) ≡ true → (o : Option Fork) → has_name g.name (map (λ f. f.name) (cons_option o (filter_map (fork_in forks t) slots))) ≡ true
     by there None = there
-    by there (Some h) = ap (λ b. same_fork g.name h.name || b) there ∙ or_true (same_fork g.name h.name)
+    by there (Some h) = ap (λ b. same_fork g.name h.name || b) there ∙ or-true (same_fork g.name h.name)
 
 -- one that can run is among the names of its job, and of a terminal
 runs_named : (forks : ForkMap) → AreSlotted forks → (f : ForkName) → runs_in forks f ≡ true → (f.tty.0 < TERMINALS) × (has_name f (names_in forks f.tty job_slots) ≡ true)
@@ -76,7 +73,7 @@ runs_named forks slotted f runs =
 -- of some names one alone passes a test: it stops once, however often it is there
 only_stop : (p : ForkName → Bool) (who : ForkName) → ((f : ForkName) → f ≢ who → p f ≡ false) → (fs : List ForkName) (s : Schedule) → IsFilled s
     → moved (map Stops (filter p fs)) s ≡ cond (p who && has_name who fs) (stopped s who) s
-only_stop p who others [] s full = sym (ap (λ b. cond b (stopped s who) s) (and_none (p who)))
+only_stop p who others [] s full = sym (ap (λ b. cond b (stopped s who) s) (and-false (p who)))
 only_stop p who others (f ∷ fs) s full = elim (cases_name f who) [
   | inr other ↦
       ap (λ b. moved (map Stops (cond b (f ∷ filter p fs) (filter p fs))) s) (others f other) ∙ only_stop p who others fs s full
@@ -90,20 +87,16 @@ only_stop p who others (f ∷ fs) s full = elim (cases_name f who) [
         ap (λ b. moved (map Stops (cond b (f ∷ filter p fs) (filter p fs))) s) (ap p it ∙ passes)
         ∙ ap (λ (x : ForkName). moved (map Stops (filter p fs)) (stopped s x)) it
         ∙ only_stop p who others fs u (filled (left s who))
-        ∙ ap (λ (v : Schedule). cond (p who && has_name who fs) v u) (stopped_none u who (filled (left s who)) (stands_stopped who who s ∙ ap (λ b. stands who s && not b) (same_itself who) ∙ and_none (stands who s)))
+        ∙ ap (λ (v : Schedule). cond (p who && has_name who fs) v u) (stopped_none u who (filled (left s who)) (stands_stopped who who s ∙ ap (λ b. stands who s && not b) (same_itself who) ∙ and-false (stands who s)))
         ∙ either (p who && has_name who fs) u
         ∙ sym (ap (λ b. cond (b && has_name who (f ∷ fs)) u s) passes ∙ ap (λ b. cond (b || has_name who fs) u s) (ap (same_fork who) it ∙ same_itself who))
   ]
 ]
-  where
-    either : (b : Bool) (u : Schedule) → cond b u u ≡ u
-    either true u = refl
-    either false u = refl
 
 -- it starts once
 only_start : (p : ForkName → Bool) (who : ForkName) → ((f : ForkName) → f ≢ who → p f ≡ false) → (chosen : ForkName → Bool) (fs : List ForkName) (s : Schedule) → IsFilled s
     → moved (map Starts (filter chosen (filter p fs))) s ≡ cond (chosen who && (p who && has_name who fs)) (started s who) s
-only_start p who others chosen [] s full = sym (ap (λ b. cond (chosen who && b) (started s who) s) (and_none (p who)) ∙ ap (λ b. cond b (started s who) s) (and_none (chosen who)))
+only_start p who others chosen [] s full = sym (ap (λ b. cond (chosen who && b) (started s who) s) (and-false (p who)) ∙ ap (λ b. cond b (started s who) s) (and-false (chosen who)))
 only_start p who others chosen (f ∷ fs) s full = elim (cases_name f who) [
   | inr other ↦
       ap (λ b. moved (map Starts (filter chosen (cond b (f ∷ filter p fs) (filter p fs)))) s) (others f other) ∙ only_start p who others chosen fs s full
@@ -124,16 +117,12 @@ only_start p who others chosen (f ∷ fs) s full = elim (cases_name f who) [
           ∙ ap (λ b. moved (map Starts (cond b (f ∷ filter chosen (filter p fs)) (filter chosen (filter p fs)))) s) (ap chosen it ∙ is)
           ∙ ap (λ (x : ForkName). moved (map Starts (filter chosen (filter p fs))) (started s x)) it
           ∙ only_start p who others chosen fs u (filled (woken s who))
-          ∙ ap (λ (v : Schedule). cond (chosen who && (p who && has_name who fs)) v u) (started_none u who (filled (woken s who)) (stands_started who who s ∙ ap (λ b. stands who s || b) (same_itself who) ∙ or_true (stands who s)))
+          ∙ ap (λ (v : Schedule). cond (chosen who && (p who && has_name who fs)) v u) (started_none u who (filled (woken s who)) (stands_started who who s ∙ ap (λ b. stands who s || b) (same_itself who) ∙ or-true (stands who s)))
           ∙ either (chosen who && (p who && has_name who fs)) u
           ∙ sym (ap (λ b. cond (b && (p who && has_name who (f ∷ fs))) u s) is ∙ ap (λ b. cond (b && has_name who (f ∷ fs)) u s) passes ∙ ap (λ b. cond (b || has_name who fs) u s) (ap (same_fork who) it ∙ same_itself who))
     ]
   ]
 ]
-  where
-    either : (b : Bool) (u : Schedule) → cond b u u ≡ u
-    either true u = refl
-    either false u = refl
 
 -- one fork ran, and another alone may have started: the lists are those behind the moves
 module _ (before after : ForkMap) (old : AreSlotted before) (new : AreSlotted after) (who newest : ForkName) (s : Schedule) (full : IsFilled s) (ran : runs_in before who ≡ true)
@@ -146,22 +135,14 @@ module _ (before after : ForkMap) (old : AreSlotted before) (new : AreSlotted af
           ∙ ap not (ap (runs_in after) it ∙ goes_on (λ same. other (it ∙ same)) (ap (runs_in before) (sym it) ∙ is))
       | inr lost ↦ ap (λ b. b && not (runs_in after f)) lost
     ]
-    | inr apart ↦ ap (λ b. runs_in before f && not b) (others f other apart) ∙ clash (runs_in before f)
+    | inr apart ↦ ap (λ b. runs_in before f && not b) (others f other apart) ∙ and_not (runs_in before f)
   ]
-    where
-      clash : (b : Bool) → (b && not b) ≡ false
-      clash true = refl
-      clash false = refl
 
   gain_none : (f : ForkName) → f ≢ newest → gains before after f ≡ false
   gain_none f apart = elim (cases_name f who) [
-    | inl it ↦ ap (λ b. runs_in after f && not b) (ap (runs_in before) it ∙ ran) ∙ and_none (runs_in after f)
-    | inr other ↦ ap (λ b. b && not (runs_in before f)) (others f other apart) ∙ clash (runs_in before f)
+    | inl it ↦ ap (λ b. runs_in after f && not b) (ap (runs_in before) it ∙ ran) ∙ and-false (runs_in after f)
+    | inr other ↦ ap (λ b. b && not (runs_in before f)) (others f other apart) ∙ and_not (runs_in before f)
   ]
-    where
-      clash : (b : Bool) → (b && not b) ≡ false
-      clash true = refl
-      clash false = refl
 
   -- who stops
   stopped_moves : moved (map Stops (filter (loses before after) (names_of before))) s ≡ stopped_if after (Some who) s
@@ -211,10 +192,6 @@ module _ (before after : ForkMap) (old : AreSlotted before) (new : AreSlotted af
               ∙ ap (λ b. cond b (started u newest) u) there ∙ sym (ap (λ b. cond b (started u newest) u) is)
         ]
   ]
-    where
-      both_first : (a b : Bool) → (a && b) ≡ true → a ≡ true
-      both_first true b e = refl
-      both_first false b e = e
 
   pub maker_moves : stands newest s ≡ runs_in before newest → started_if after (λ f. true) (finite.get after newest) (stopped_if after (Some who) s) ≡ moved (moves before after) s
   unfolding moves
@@ -242,7 +219,7 @@ module _ (before after : ForkMap) (old : AreSlotted before) (new : AreSlotted af
             | inl runs ↦ ap (λ b. cond b (started u newest) u) runs ∙ elim (cases_Bool (runs_in before newest)) [
               | inl was ↦
                   started_none u newest (stop_filled after (Some who) s full) (stop_one after (Some who) s newest runs ∙ stand ∙ was)
-                  ∙ sym (ap (λ b. cond (runs_in after newest && not b) (started u newest) u) was ∙ ap (λ b. cond b (started u newest) u) (and_none (runs_in after newest)))
+                  ∙ sym (ap (λ b. cond (runs_in after newest && not b) (started u newest) u) was ∙ ap (λ b. cond b (started u newest) u) (and-false (runs_in after newest)))
               | inr was_not ↦ sym (ap (λ b. cond (b && not (runs_in before newest)) (started u newest) u) runs ∙ ap (λ b. cond (not b) (started u newest) u) was_not)
             ]
           ]
@@ -257,7 +234,7 @@ module _ (before after : ForkMap) (old : AreSlotted before) (new : AreSlotted af
       let three = map Starts (filter (λ f. not (waits_in before f)) (filter (gains before after) (names_of after))) in
       sym (moved_both one (two ++ three) s ∙ moved_both two three (moved one s) ∙ ap (λ (v : Schedule). moved three (moved two v)) stopped_moves
       ∙ started_moves u (stop_filled after (Some who) s full)
-      ∙ ap (λ b. cond b (started u newest) u) (ap (λ b. runs_in after newest && not b) (ap (runs_in before) same ∙ ran) ∙ and_none (runs_in after newest)))
+      ∙ ap (λ b. cond b (started u newest) u) (ap (λ b. runs_in after newest && not b) (ap (runs_in before) same ∙ ran) ∙ and-false (runs_in after newest)))
 
 -- so where the lists follow a fork that may have made another
 pub made_moves : (now : PlainTree) (who : ForkName) (slot : ℕ) (l : ForkLists) → IsTree now → (can : CanFollowMaker now who slot l)

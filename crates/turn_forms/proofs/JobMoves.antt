@@ -1,6 +1,7 @@
 -- The lists that follow the forks of a job are those behind the moves of its forks.
 use Rattle.std.proofs.Common.{◌≡◌, ◌≢◌, ℕ, zero, suc, ◌+◌, ◌<◌, ◌≤◌, Bool, true, false, cond, not, ◌&&◌, ◌||◌, List, [], ◌∷◌, ◌++◌, map, filter, Option, None, Some, refl, sym, ◌∙◌, ap, inl, inr, arith}
 use Rattle.std.proofs.lemmas.Bool.{cases_Bool, cases_eq}
+use Rattle.std.proofs.Math.Bool.{and-false, and-true}
 use Rattle.std.proofs.lemmas.List.{append-nil}
 use Rattle.std.proofs.lemmas.List.Elements.{filter-append}
 use Rattle.std.specs.List.{cons_option, filter_map, flat_map, range_with_len}
@@ -26,13 +27,9 @@ use Rattle.fork_lists.proofs.Folds.{IsAmong, lost_filled, lost_keeps, picks_fill
 use Rattle.turn_forms.specs.Turns.{KeepSlots, moved}
 use Rattle.turn_forms.proofs.Nothing.{moved_both, started_none, stopped_none}
 
-and_none : (b : Bool) → (b && false) ≡ false
-and_none true = refl
-and_none false = refl
-
-and_all : (b : Bool) → (b && true) ≡ b
-and_all true = refl
-and_all false = refl
+pub and_not : (b : Bool) → (b && not b) ≡ false
+and_not true = refl
+and_not false = refl
 
 -- a number of a range is within its bounds
 pub among_bounds : (n from len : ℕ) → IsAmong n (range_with_len from len) → (from ≤ n) × (n < from + len)
@@ -101,12 +98,8 @@ module _ (before after : ForkMap) where
   pub all_moves : AreSlotted before → AreSlotted after → (t : Tty) → t.0 < TERMINALS → ((f : ForkName) → f.tty.0 ≢ t.0 → runs_in after f ≡ runs_in before f) → moves before after ≡ job_moves t job_slots
   unfolding moves
   all_moves old new t low others =
-      let none : (b : Bool) → (b && not b) ≡ false = λ b. elim (cases_Bool b) [
-        | inl is ↦ ap (λ c. c && not c) is
-        | inr is ↦ ap (λ c. c && not c) is
-      ] in
-      let stops = names_here before old t loses low (λ f other. ap (λ b. runs_in before f && not b) (others f other) ∙ none (runs_in before f)) in
-      let starts = names_here after new t gains low (λ f other. ap (λ b. b && not (runs_in before f)) (others f other) ∙ none (runs_in before f)) in
+      let stops = names_here before old t loses low (λ f other. ap (λ b. runs_in before f && not b) (others f other) ∙ and_not (runs_in before f)) in
+      let starts = names_here after new t gains low (λ f other. ap (λ b. b && not (runs_in before f)) (others f other) ∙ and_not (runs_in before f)) in
       ap (λ (fs : List ForkName). map Stops fs ++ (map Starts (filter (waits_in before) (filter gains (names_of after))) ++ map Starts (filter (λ f. not (waits_in before f)) (filter gains (names_of after))))) stops
       ∙ ap (λ (fs : List ForkName). map Stops (filter loses (names_in before t job_slots)) ++ (map Starts (filter (waits_in before) fs) ++ map Starts (filter (λ f. not (waits_in before f)) fs))) starts
 
@@ -136,7 +129,7 @@ module _ (before after : ForkMap) where
             ap (λ (x : Seen). lost_stopped after seen t (stopped_if after x.fork s) slots) (same slot (inl refl) ∙ ap seen_of is) ∙ elim (cases_Bool (runs_in after g.name)) [
               | inl runs ↦
                   ap (λ b. lost_stopped after seen t (cond b s (stopped s g.name)) slots) runs ∙ more s full away
-                  ∙ kept g.name (ap (λ b. runs_in before g.name && not b) runs ∙ and_none (runs_in before g.name))
+                  ∙ kept g.name (ap (λ b. runs_in before g.name && not b) runs ∙ and-false (runs_in before g.name))
               | inr lost ↦ ap (λ b. lost_stopped after seen t (cond b s (stopped s g.name)) slots) lost ∙ elim (cases_Bool (runs_in before g.name)) [
                 | inl ran ↦
                     more (stopped s g.name) (filled (left s g.name)) (λ f here none. stands_stopped g.name f s ∙ ap (λ b. b && not (same_fork g.name f)) (away f here none))
@@ -181,14 +174,14 @@ module _ (before after : ForkMap) where
         by more (Some g) is = elim (cases_Bool (runs_in after g.name)) [
           | inr lost ↦
               ap (λ b. picks_started after picks t (cond (picks slot g.name && b) (started s g.name) s) slots) lost
-              ∙ ap (λ b. picks_started after picks t (cond b (started s g.name) s) slots) (and_none (picks slot g.name))
+              ∙ ap (λ b. picks_started after picks t (cond b (started s g.name) s) slots) (and-false (picks slot g.name))
               ∙ more s full there ∙ passed g.name (ap (λ b. b && not (runs_in before g.name)) lost)
           | inl runs ↦ elim (cases_Bool (runs_in before g.name)) [
             | inl ran ↦
                 let still = started_none s g.name full (there g.name (slot_tells after new.own t slot g is).1 ran runs) in
                 ap (λ (u : Schedule). picks_started after picks t (cond (picks slot g.name && runs_in after g.name) u s) slots) still
                 ∙ ap (λ (u : Schedule). picks_started after picks t u slots) (either (picks slot g.name && runs_in after g.name))
-                ∙ more s full there ∙ passed g.name (ap (λ b. runs_in after g.name && not b) ran ∙ and_none (runs_in after g.name))
+                ∙ more s full there ∙ passed g.name (ap (λ b. runs_in after g.name && not b) ran ∙ and-false (runs_in after g.name))
             | inr none ↦ elim (cases_Bool (chosen g.name)) [
               | inl is_chosen ↦
                   ap (λ b. picks_started after picks t (cond b (started s g.name) s) slots) (ap (λ b. b && runs_in after g.name) (same slot g (inl refl) is ∙ is_chosen) ∙ runs)
@@ -218,13 +211,13 @@ module _ (before after : ForkMap) where
         by None is_none (Some h) there = absurd (let no : None ≡ Some h = sym is_none ∙ found h there in cc no)
         by (Some k) is_some None none = elim (cases_Bool (same_fork g.name k.name)) [
           | inl it ↦ absurd (let no : None ≡ Some k = sym none ∙ ap (finite.get before) (names_same g.name k.name it) ∙ (slot_tells before old.own t slot k is_some).0 in cc no)
-          | inr apart ↦ ap (λ b. waits_for_one k.body.status && b) apart ∙ and_none (waits_for_one k.body.status)
+          | inr apart ↦ ap (λ b. waits_for_one k.body.status && b) apart ∙ and-false (waits_for_one k.body.status)
         ]
         by (Some k) is_some (Some h) there =
             let one : k ≡ h = (let both : Some k ≡ Some h = sym is_some ∙ found h there in cc both) in
             let name : k.name ≡ g.name = ap (λ (x : Fork). x.name) one ∙ old.own g.name h there in
             ap (λ (x : ForkName). waits_for_one k.body.status && same_fork g.name x) name
-            ∙ ap (λ b. waits_for_one k.body.status && b) (same_itself g.name) ∙ and_all (waits_for_one k.body.status) ∙ ap (λ (x : Fork). waits_for_one x.body.status) one
+            ∙ ap (λ b. waits_for_one k.body.status && b) (same_itself g.name) ∙ and-true (waits_for_one k.body.status) ∙ ap (λ (x : Fork). waits_for_one x.body.status) one
 
     -- THE LISTS THAT FOLLOW A JOB ARE THOSE BEHIND ITS MOVES
     pub followed_moves : (seen : List Seen) (s : Schedule) → IsFilled s → ((f : ForkName) → f.tty.0 ≡ t.0 → stands f s ≡ runs_in before f)

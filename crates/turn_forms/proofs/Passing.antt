@@ -1,9 +1,7 @@
 -- A fork that is passed over comes closer by each unit of another.
-use Rattle.std.proofs.Common.{◌≡◌, ℕ, zero, suc, ◌<◌, ◌≤◌, Bool, true, false, cond, not, ◌&&◌, ◌||◌, List, [], ◌∷◌, ◌++◌, length, map, filter, slice_get, Option, inl, inr, refl, sym, ◌∙◌, ap, subst, arith}
+use Rattle.std.proofs.Common.{◌≡◌, ℕ, zero, suc, ◌<◌, ◌≤◌, Bool, true, false, cond, not, ◌&&◌, List, [], ◌∷◌, ◌++◌, length, map, filter, slice_get, inl, inr, refl, sym, ◌∙◌, ap, subst, arith}
 use Rattle.std.specs.Prelude.{⊤}
 use Rattle.std.proofs.lemmas.Bool.{cases_Bool}
-use Rattle.std.specs.List.{list_any}
-use Rattle.std.specs.Option.{option_map_or}
 use Rattle.machine_names.specs.declared.names.ForkName.{ForkName}
 use Rattle.machine_names.specs.Orders.{same_fork}
 use Rattle.script_texts.specs.Follows.{AreTurns}
@@ -17,24 +15,14 @@ use Rattle.plain_model.specs.Run.{apply}
 use Rattle.plain_model.specs.State.{PlainState}
 use Rattle.job_sched.specs.declared.member.Member.{Member}
 use Rattle.job_sched.specs.Lines.{Nears, ahead_of, is_in_line}
-use Rattle.job_sched.specs.Schedules.{Schedule, heads, is_member, is_outside, is_ready, is_waiter, stands, started, stopped}
+use Rattle.job_sched.specs.Schedules.{Schedule, heads, started, stopped}
 use Rattle.job_sched.specs.Units.{IsRow, IsTimed, row_ran, unit_ran}
+use Rattle.fork_lists.specs.Ties.{ComesOn}
+use Rattle.fork_lists.proofs.Nearing.{headed, heads_as, in_line, on_still, on_then}
 use Rattle.job_sched.proofs.Heads.{starts as head_starts, stops as head_stops}
-use Rattle.job_sched.proofs.Lines.{begins, due, gives, joins, rows, starts, stops}
+use Rattle.job_sched.proofs.Lines.{due, gives, joins, rows, starts, stops}
 use Rattle.job_sched.proofs.Ties.{none_runs}
 use Rattle.turn_forms.specs.Turns.{AreCalm, AreReady, Silent, TakesTurns, behind, counted_to, moved, moved_silently}
-
--- the head is who was the head
-heads_as : (g : ForkName) (ms ns : List Member) → slice_get ns 0 ≡ slice_get ms 0 → heads g ns ≡ heads g ms
-heads_as g ms ns same = of g ns ∙ ap (λ (o : Option Member). option_map_or (is_member g) o false) same ∙ sym (of g ms)
-  where
-    of : (g : ForkName) (ms : List Member) → heads g ms ≡ option_map_or (is_member g) (slice_get ms 0) false
-    of g [] = refl
-    of g (m ∷ ms) = refl
-
-headed : (g : ForkName) (ms : List Member) → heads g ms ≡ true → 0 < length ms
-headed g [] head = absurd (cc head)
-headed g (m ∷ ms) head = omega arith
 
 -- another fork isn't the head
 not_head : (f g : ForkName) (ms : List Member) → heads g ms ≡ true → (g ≡ f → ⊥) → heads f ms ≡ false
@@ -44,49 +32,23 @@ not_head f g (m ∷ ms) head other = elim (cases_Bool (same_fork f m.fork)) [
   | inr apart ↦ apart
 ]
 
--- where no fork is in page wait, whoever stands is in line
-in_line : (f : ForkName) (s : Schedule) → s.waiting ≡ [] → stands f s ≡ true → is_in_line f s ≡ true
-in_line f s calm here = by (is_ready f s) (is_outside f s) (sym (ap (λ ws. (is_outside f s || is_ready f s) || list_any (is_waiter f) ws) calm) ∙ here)
-  where
-    by : (a b : Bool) → ((b || a) || false) ≡ true → (a || b) ≡ true
-    by true b e = refl
-    by false true e = refl
-    by false false e = e
-
--- a fork has come no farther back, and closer where the head has lost its place
-record Comes (f : ForkName) (s u : Schedule) : Type 0 where
-  nears : Nears f s u 0
-  lost : (g : ForkName) → heads g s.ready ≡ true → heads g u.ready ≡ false → Nears f s u 1
-
 -- a head that is as it was can't have gone
 still_there : {A : Type 0} (g : ForkName) (s u : Schedule) → slice_get u.ready 0 ≡ slice_get s.ready 0 → heads g s.ready ≡ true → heads g u.ready ≡ false → A
 still_there g s u same head gone = absurd (let no : true ≡ false = sym head ∙ sym (heads_as g s.ready u.ready same) ∙ gone in cc no)
 
-comes_still : (f : ForkName) (s : Schedule) → IsTimed s → is_in_line f s ≡ true → Comes f s s
-comes_still f s timed here = record { nears = begins f s timed here; lost = λ g head gone. still_there g s s refl head gone }
-
-comes_then : (f : ForkName) (s u v : Schedule) → Comes f s u → Comes f u v → Comes f s v
-comes_then f s u v a b = record {
-  nears = joins f s u v 0 0 a.nears b.nears;
-  lost = λ g head gone. elim (cases_Bool (heads g u.ready)) [
-    | inl still ↦ joins f s u v 0 1 a.nears (b.lost g still gone)
-    | inr left ↦ joins f s u v 1 0 (a.lost g head left) b.nears
-  ];
-}
-
-stop_one : (f g : ForkName) (s : Schedule) → same_fork g f ≡ false → IsTimed s → is_in_line f s ≡ true → Comes f s (stopped s g)
+stop_one : (f g : ForkName) (s : Schedule) → same_fork g f ≡ false → IsTimed s → is_in_line f s ≡ true → ComesOn f s (stopped s g)
 stop_one f g s apart timed here = record {
   nears = stops f g s timed here apart;
-  lost = λ h head gone. elim (cases_Bool (heads g s.ready)) [
+  gives = λ h head gone. elim (cases_Bool (heads g s.ready)) [
     | inl is ↦ gives f g s timed here apart is
     | inr other ↦ still_there h s (stopped s g) (head_stops s g (headed h s.ready head) other).0 head gone
   ];
 }
 
-start_one : (f g : ForkName) (s : Schedule) → IsTimed s → is_in_line f s ≡ true → Comes f s (started s g)
+start_one : (f g : ForkName) (s : Schedule) → IsTimed s → is_in_line f s ≡ true → ComesOn f s (started s g)
 start_one f g s timed here = record {
   nears = starts f g s timed here;
-  lost = λ h head gone. still_there h s (started s g) (head_starts s g (headed h s.ready head)).0 head gone;
+  gives = λ h head gone. still_there h s (started s g) (head_starts s g (headed h s.ready head)).0 head gone;
 }
 
 -- none of these moves stops a fork
@@ -95,14 +57,14 @@ Avoids f [] = ⊤
 Avoids f (Stops g ∷ ms) = (same_fork g f ≡ false) × Avoids f ms
 Avoids f (Starts g ∷ ms) = Avoids f ms
 
-moves_come : (f : ForkName) (ms : List Move) (s : Schedule) → Avoids f ms → IsTimed s → is_in_line f s ≡ true → Comes f s (moved ms s)
-moves_come f [] s none timed here = comes_still f s timed here
+moves_come : (f : ForkName) (ms : List Move) (s : Schedule) → Avoids f ms → IsTimed s → is_in_line f s ≡ true → ComesOn f s (moved ms s)
+moves_come f [] s none timed here = on_still f s timed here
 moves_come f (Stops g ∷ ms) s (apart, rest) timed here =
     let first = stop_one f g s apart timed here in
-    comes_then f s (stopped s g) (moved ms (stopped s g)) first (moves_come f ms (stopped s g) rest first.nears.timed first.nears.here)
+    on_then f s (stopped s g) (moved ms (stopped s g)) first (moves_come f ms (stopped s g) rest first.nears.timed first.nears.here)
 moves_come f (Starts g ∷ ms) s rest timed here =
     let first = start_one f g s timed here in
-    comes_then f s (started s g) (moved ms (started s g)) first (moves_come f ms (started s g) rest first.nears.timed first.nears.here)
+    on_then f s (started s g) (moved ms (started s g)) first (moves_come f ms (started s g) rest first.nears.timed first.nears.here)
 
 avoids_both : (f : ForkName) (ms ns : List Move) → Avoids f ms → Avoids f ns → Avoids f (ms ++ ns)
 avoids_both f [] ns a b = b
@@ -142,12 +104,12 @@ avoids_moves f before after runs =
     (avoids_both f (map Starts waited) (map Starts others) (avoids_starts f waited) (avoids_starts f others))
 
 -- a unit that is counted, where its fork still is the head: either way another comes closer
-unit_comes : (f g : ForkName) (c u : Schedule) → (g ≡ f → ⊥) → heads g c.ready ≡ true → Comes f c u → Nears f c (counted_to g u) 1
+unit_comes : (f g : ForkName) (c u : Schedule) → (g ≡ f → ⊥) → heads g c.ready ≡ true → ComesOn f c u → Nears f c (counted_to g u) 1
 unfolding row_ran
 unit_comes f g c u other head came = elim (cases_Bool (heads g u.ready)) [
   | inl still ↦ subst (λ (b : Bool). Nears f c (cond b (unit_ran u.ready u) u) 1) (sym still)
       (joins f c u (row_ran 1 u) 0 1 came.nears (rows f u 1 came.nears.timed came.nears.here (not_head f g u.ready still other) (one u (headed g u.ready still) came.nears.timed)))
-  | inr lost ↦ subst (λ (b : Bool). Nears f c (cond b (unit_ran u.ready u) u) 1) (sym lost) (came.lost g head lost)
+  | inr lost ↦ subst (λ (b : Bool). Nears f c (cond b (unit_ran u.ready u) u) 1) (sym lost) (came.gives g head lost)
 ]
   where
     one : (u : Schedule) → 0 < length u.ready → IsTimed u → IsRow 1 u

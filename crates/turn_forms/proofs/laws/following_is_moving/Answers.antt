@@ -1,5 +1,6 @@
-use Rattle.std.proofs.Common.{◌≡◌, Bool, true, false, not, ◌&&◌, List, refl, sym, ◌∙◌, ap, inl, inr}
+use Rattle.std.proofs.Common.{not, ◌&&◌, List, refl, sym, ◌∙◌, ap, inl, inr}
 use Rattle.std.proofs.lemmas.Bool.{cases_Bool}
+use Rattle.std.proofs.Math.Bool.{and-false}
 use Rattle.plain_model.specs.Forks.{runs_in}
 use Rattle.plain_model.specs.Moves.{Move}
 use Rattle.fork_lists.proofs.Chosen.{test_filled}
@@ -25,11 +26,7 @@ pub returns-clause-all : goal.returns-clause-all
 returns-clause-all c = λ before after l old new tied keeps none_stops waiters.
     all_followed before after old new l.seen.items none_stops
     (λ f waits. elim (cases_Bool (runs_in after f)) [
-      | inl runs ↦ ap (λ b. runs_in after f && not b) (waiters f waits runs) ∙ none (runs_in after f)
+      | inl runs ↦ ap (λ b. runs_in after f && not b) (waiters f waits runs) ∙ and-false (runs_in after f)
       | inr lost ↦ ap (λ b. b && not (runs_in before f)) lost
     ])
     keeps (λ t slot low first last. (tied.each t).seen slot low first last) l.sched (test_filled l.sched tied.filled) (λ f. (tied.each f.tty).listed f refl)
-  where
-    none : (b : Bool) → (b && false) ≡ false
-    none true = refl
-    none false = refl
