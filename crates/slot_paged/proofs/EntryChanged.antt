@@ -1,6 +1,6 @@
 -- An entry that was set is set anew as is asked.
 use Rattle.std.proofs.Common.{◌≡◌, ℕ, ◌<◌, List, true, false, Option, None, Some, is_some, refl, sym, ◌∙◌, ap, subst}
-use Rattle.std.specs.Prelude.{count_by, nat_eq, nat_lt}
+use Rattle.std.specs.Prelude.{nat_lt}
 use Rattle.std.specs.Option.{option_map, option_map_or, unwrap_or}
 use Rattle.std.specs.FinMap as fin
 use Rattle.machine_names.specs.declared.names.Access.{Access}
@@ -26,8 +26,6 @@ use Rattle.plain_pages.proofs.Kept.{entry_again}
 use Rattle.pager_walk.specs.declared.paged_entry.Looked.TheVariants.{Is}
 use Rattle.pager_walk.specs.declared.paged_entry.PagedEntry.{PagedEntry}
 use Rattle.pager_walk.specs.declared.paged_entry.PagedEntry.TheVariants as paged
-use Rattle.pager_walk.specs.declared.map_pages.MapPage.{MapPage}
-use Rattle.pager_walk.specs.MapPages.{index_of}
 use Rattle.pager_walk.specs.PagedMaps.{TellsEntry, look_at, name_at, name_of, plain_entry}
 use Rattle.pager_walk.proofs.Looking.{ArePages, looked}
 use Rattle.flat_pages.specs.HeldMaps.{nobody}
@@ -36,6 +34,7 @@ use Rattle.flat_pages.proofs.EmptyMaps.{core_on}
 use Rattle.flat_pages.proofs.FiledHomes.{get_filed}
 use Rattle.slot_paged.specs.PagedTables.{Beside, AreKept, FitsPages, in_memory_over, plain_over}
 use Rattle.slot_paged.specs.SetEntries.{ChangesEntry, SetsSlot, UsesMapOf, narrow_paged}
+use Rattle.slot_paged.proofs.MapsSame.{forks_same, lives_same}
 use Rattle.slot_paged.proofs.UsedPlaces.{uses_again}
 use Rattle.slot_paged.proofs.Homed.{sized}
 use Rattle.slot_paged.proofs.MapsTold.{maps_told}
@@ -64,8 +63,8 @@ module _ {S : Type 0} (store : StoreMeaning S) (old new : S) (b b' : Beside) (ke
     filed = sets.filed;
     lost = sets.lost;
     uses = sets.uses;
-    lives = ap (λ ms. λ f. is_some (index_of ms f)) sets.maps;
-    forks = ap (λ ms. λ t. count_by (λ (m : MapPage). option_map_or (λ f. nat_eq f.tty.0 t.0) m.fork false) ms) sets.maps;
+    lives = lives_same b b' sets.maps;
+    forks = forks_same b b' sets.maps;
     serials = sets.serials;
     maps = sets.maps;
     most = sets.limit;

@@ -49,23 +49,3 @@ zero_bare t = bare_words t zero_words (subst AreBare (sym (empty_entries t)) bar
 -- and one each of whose entries follows that of another fork
 pub following_bare : (t : Tables) (f : ForkName) → 1 ≤ f.serial → f.serial ≤ LAST_SERIAL → AreBareWords t (following_words f.serial SPACE_PAGES)
 following_bare t f one last = bare_words t (following_words f.serial SPACE_PAGES) (subst AreBare (sym (following_entries t f one last)) (bare_followers f.serial))
-
--- the page of the new fork's map has the words that it was made with
-module _ {S : Type 0} (store : StoreMeaning S) (old new : S) (b b' : Beside) (kept' : AreKept b' (store.homes new)) (number : ℕ) (below : number < length b.tables.maps) (fork : ForkName) (home : Home) (words : List ℕ) (beside : b' ≡ with_fork b number fork home)
-    (made : IsMade store home.0 (here words) old new) where
-  abbrev m : MapPage
-  m = record { fork = Some fork; home = home }
-
-  map_is : map_at b'.tables.maps number ≡ m
-  map_is = ap (λ (x : Beside). map_at x.tables.maps number) beside ∙ get_or-set_same b.tables.maps number m no_map below
-
-  numbered : index_of b'.tables.maps fork ≡ Some number
-  numbered = index_is b'.tables.maps kept'.rooted.numbered.once fork number (ap (λ (x : MapPage). x.fork) map_is)
-
-  own_home : map_home_over b' fork ≡ Some home.0
-  own_home = ap (option_map (λ k. (root_at b'.tables.maps k).0)) numbered ∙ ap (λ (x : MapPage). Some x.home.0) map_is
-
-  pub map_words : (k : ℕ) → map_home_over b' fork ≡ Some k → place (store.homes new) k ≡ here words
-  map_words k is =
-      let same : home.0 ≡ k = (let z : Some home.0 ≡ Some k = sym own_home ∙ is in cc z) in
-      ap (place (store.homes new)) (sym same) ∙ ap (λ ps. place ps home.0) made.homes ∙ get_or-set_same (store.homes old) home.0 (here words) free made.below

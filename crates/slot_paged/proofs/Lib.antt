@@ -38,6 +38,7 @@ pub mod FileTold
 pub mod EntryLooks
 pub mod WalksSet
 pub mod StillScenes
+pub mod MapsSame
 pub mod SettledTouches
 pub mod UsedPlaces
 pub mod MadeDone
@@ -57,9 +58,7 @@ pub mod EntryChanged
 pub mod PutDone
 pub mod EmptiedForks
 pub mod ForksEnded
-pub mod ForksLeft
 pub mod HomesKept
 pub mod EntriesFreed
 pub mod ForksAdded
-pub mod HousedPages
 pub mod CountLaws

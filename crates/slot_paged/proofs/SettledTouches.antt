@@ -1,20 +1,22 @@
 -- What a touch along a chain announces, and what it answers once that is made, whatever the drum.
 use Rattle.std.proofs.Common.{◌≡◌, inl, inr, ℕ, ◌<◌, List, Bool, true, false, cond, Option, None, Some, is_some, refl, sym, ◌∙◌, ap, subst, arith}
 use Rattle.std.specs.Prelude.{nat_lt}
+use Rattle.std.specs.FinMap as fin
 use Rattle.std.specs.Option.{option_map}
 use Rattle.std.proofs.lemmas.Bool.Decides.{nat_tests}
 use Rattle.machine_names.specs.declared.names.Kind.{Kind}
 use Rattle.machine_names.specs.declared.names.Kind.TheVariants.{Read, Write, Execute}
 use Rattle.machine_names.specs.declared.names.Slot.{Slot}
+use Rattle.machine_names.specs.Orders.{FilePage}
 use Rattle.page_homes.specs.declared.homes.Home.{Home}
 use Rattle.page_contracts.specs.declared.answers.Touch.{Touch}
 use Rattle.page_contracts.specs.declared.answers.Touch.TheVariants.{Ready, Zero, Copy, NeedFrame, Denied, Full}
 use Rattle.page_contracts.specs.Pages.{SettlesTo, absent_or, can_settle, framed}
-use Rattle.page_contracts.specs.Stores.{HomePlace, away_at, is_taken, place}
+use Rattle.page_contracts.specs.Stores.{HomePlace, away_at, here, is_taken, place}
 use Rattle.pager_walk.specs.declared.chain_walk.Way.{Way}
 use Rattle.pager_walk.specs.declared.chain_walk.Walked.{Walked}
 use Rattle.pager_walk.specs.declared.chain_walk.Walked.TheVariants.{Along}
-use Rattle.pager_walk.specs.Walks.{allows_along, walk_at}
+use Rattle.pager_walk.specs.Walks.{WayStands, allows_along, walk_at}
 use Rattle.pager_walk.specs.declared.paged_entry.Looked.{Looked}
 use Rattle.pager_walk.specs.declared.paged_entry.Looked.TheVariants.{Is, Absent, Missing, Refused}
 use Rattle.pager_walk.specs.declared.paged_entry.PagedEntry.TheVariants.{Empty, Page, Follows}
@@ -23,6 +25,7 @@ use Rattle.pager_walk.proofs.Looking.{taken_map}
 use Rattle.flat_pages.proofs.Settled.{can_copying, copying}
 use Rattle.slot_paged.specs.PagedTables.{AreKept, Beside}
 use Rattle.slot_paged.specs.PagedTouches.{alone_at, alone_in, copy_for, copy_touched, file_touched, has_one_name, made_touched, roomy, scene_over, walk_touched}
+use Rattle.slot_paged.proofs.ReadyHomes.{words_here}
 use Rattle.slot_paged.proofs.WalksSet.{Copied, page_marked}
 
 -- a reference that makes a copy writes
@@ -198,6 +201,31 @@ module _ (b : Beside) (places : List HomePlace) (frames : ℕ) where
 -- a home that has a name is taken
 pub named_taken : (b : Beside) (places : List HomePlace) → AreKept b places → (h : ℕ) → is_some (name_at b.tables.names h) ≡ true → is_taken (place places h) ≡ true
 named_taken b places kept h named = sym (taken_map places h) ∙ kept.rooted.named h named
+
+-- the page at the end of a chain that is used, or copied, is in a frame
+module _ (b : Beside) (places : List HomePlace) (kept : AreKept b places) (frames : ℕ) (kind : Kind) (w : Way) (stands : WayStands b.tables places w) (ready : can_settle (walk_touched b places frames kind (Along w)) ≡ true) (h : Home) (home : w.home ≡ Some h) where
+  taken : is_taken (place places h.0) ≡ true
+  taken = named_taken b places kept h.0 (stands.named h home)
+
+  pub used_here : copy_for kind w ≡ None → (words : List ℕ) × (place places h.0 ≡ here words)
+  used_here none = words_here places h.0 taken (is_ready b places frames kind w ready h home none).near
+
+  pub copied_here : (m : Slot) → copy_for kind w ≡ Some m → (words : List ℕ) × (place places h.0 ≡ here words)
+  copied_here m some = words_here places h.0 taken (is_copy b places frames kind w ready h m home some).near
+
+-- so is the page that a file names; and where it names none a zero page can be made
+module _ (b : Beside) (places : List HomePlace) (kept : AreKept b places) (frames : ℕ) (kind : Kind) (f : FilePage ℕ) (ready : can_settle (file_touched (away_at places) b (scene_over b places frames) kind (fin.get b.files f)) ≡ true) where
+  abbrev Touched : Option Home → Touch
+  Touched = file_touched (away_at places) b (scene_over b places frames) kind
+
+  pub filed_ready : (h : Home) → fin.get b.files f ≡ Some h → Touched (fin.get b.files f) ≡ Ready
+  filed_ready h there = ap Touched there ∙ (file_ready b places frames kind h (ap (λ o. can_settle (Touched o)) (sym there) ∙ ready)).0
+
+  pub filed_here : (h : Home) → fin.get b.files f ≡ Some h → (words : List ℕ) × (place places h.0 ≡ here words)
+  filed_here h there = words_here places h.0 (named_taken b places kept h.0 (kept.filed f h there)) (file_ready b places frames kind h (ap (λ o. can_settle (Touched o)) (sym there) ∙ ready)).1
+
+  pub filed_zero : fin.get b.files f ≡ None → IsFileZero b places frames kind
+  filed_zero none = file_zero b places frames kind (ap (λ o. can_settle (Touched o)) (sym none) ∙ ready)
 
 -- an entry with the mark that is the only name of its page names that at the end
 pub alone_one : (b : Beside) (places : List HomePlace) (s : Slot) (w : Way) (m : Slot) (h : Home) → walk_at b.tables places s ≡ Along w → w.copy ≡ Some m → w.home ≡ Some h → alone_at b places m ≡ true → has_one_name b h.0 ≡ true

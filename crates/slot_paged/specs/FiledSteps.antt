@@ -1,13 +1,14 @@
 -- What steps on pages of files do to a store and to what is kept beside it.
-use Rattle.std.specs.Prelude.{◌≡◌, ◌≢◌, ◌⊎◌, ℕ, ◌<◌, ◌≤◌, List, Option, None, Some}
+use Rattle.std.specs.Prelude.{◌≡◌, ◌≢◌, ◌⊎◌, ℕ, ◌<◌, ◌≤◌, List, Option, None, Some, is_some}
 use Rattle.std.specs.FinMap as fin
 use Rattle.std.specs.Option.{option_map}
+use Rattle.machine_names.specs.declared.names.Slot.{Slot}
 use Rattle.machine_names.specs.Orders.{FilePage, file_page}
 use Rattle.page_homes.specs.declared.homes.Home.{Home}
 use Rattle.page_contracts.specs.DrumWords.{DrumWords}
 use Rattle.page_contracts.specs.Pages.{StaysInCore}
 use Rattle.page_contracts.specs.Stores.{HomePlace, Loses, RenewsNone, StoreMeaning, free, place, traffic}
-use Rattle.plain_pages.specs.FilePages.{with_file}
+use Rattle.plain_pages.specs.FilePages.{filed_by, with_file}
 use Rattle.share_table.specs.declared.shares.Share.{Share}
 use Rattle.share_table.specs.Shares.{page_at}
 use Rattle.flat_pages.specs.FileSteps.{AreFewerFiled, FileHas, IsFiled}
@@ -39,6 +40,13 @@ pub record SetsFiled {S : Type 0} (store : StoreMeaning S) (old new : S) (b b' :
   pub core : StaysInCore (scene_over b (store.homes old) (store.spare old)) (scene_over b' (store.homes new) (store.spare new)) 0
   pub lost : Loses (traffic store old) (traffic store new)
   pub used : RenewsNone (traffic store old) (traffic store new)
+
+-- a page of a file was set to that of a slot, or to none: the page of this home, or none
+pub record SetsFilePage {S : Type 0} (store : StoreMeaning S) (old new : S) (b b' : Beside) (f : FilePage ℕ) (from : Option Slot) : Type 0 where
+  pub home : Option Home
+  pub named : is_some home ≡ is_some from
+  pub sets : SetsFiled store old new b b' f home
+  pub told : (d : DrumWords) → FitsPages b (store.homes old) d → FitsPages b' (store.homes new) d × (plain_over b' (store.homes new) d ≡ filed_by (plain_over b (store.homes old) d) f from)
 
 -- the page of a home has a share: it had one, or got one that counts its one name
 pub data SharesPage (b b' : Beside) (h : Home) : Type 0 where

@@ -9,7 +9,7 @@ use Rattle.pager_walk.specs.declared.paged_entry.Looked.TheVariants.{Is}
 use Rattle.pager_walk.specs.declared.paged_entry.PagedEntry.TheVariants.{Page}
 use Rattle.pager_walk.specs.MapPages.{index_of, root_at}
 use Rattle.pager_walk.specs.PagedMaps.{look_at, map_away}
-use Rattle.slot_paged.specs.EndedForks.{fork_gone}
+use Rattle.slot_paged.specs.EndedForks.{EmptiesFork, fork_gone}
 use Rattle.slot_paged.specs.FiledSteps.{PageStays}
 use Rattle.slot_paged.specs.PagedTables.{Beside, AreKept}
 
@@ -52,7 +52,7 @@ pub record EndsFork {S : Type 0} (store : StoreMeaning S) (old new : S) (b b' : 
   pub mid : S
   pub between : Beside
   pub kept : AreKept between (store.homes mid)
-  pub same : between.tables.maps ≡ b.tables.maps
+  pub empties : EmptiesFork store old mid b between fork SPACE_PAGES
   pub frees : FreesEntries store old mid b between fork SPACE_PAGES
   pub freed : IsFreed store (root_at b.tables.maps frees.number).0 mid new
   pub beside : b' ≡ fork_gone between frees.number

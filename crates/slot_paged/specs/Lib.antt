@@ -1,5 +1,6 @@
 pub mod KnownPages
 pub mod PagedSlots
+pub mod Slots
 pub mod FiledTables
 pub mod FiledSteps
 pub mod PagedPlaces

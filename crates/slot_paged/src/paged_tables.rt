@@ -65,7 +65,7 @@ impl PagedTables {
     ghost use Rattle.pager_walk.specs.PagedMaps.{AreRooted, FitsMaps, tables_of, with_name};
     ghost use Rattle.pager_walk.specs.declared.map_pages.TheConstants.{MOST_MAPS};
     ghost use Rattle.slot_paged.specs.LeftShares.{keeps_name, left_by_one, left_of, left_once};
-    ghost use Rattle.slot_paged.specs.MadePages.{pointer_to, with_shares};
+    ghost use Rattle.slot_paged.specs.MadePages.{page_renamed, pointer_to, with_shares};
     ghost use Rattle.slot_paged.specs.PagedTables.{beside_of};
     ghost use Rattle.slot_paged.specs.SetEntries.{JoinsPage, SharesPage, alone_home, page_freed, pointer_of};
     ghost use Rattle.share_table.specs.declared.shares.Share.{Share as AShare};
@@ -259,11 +259,14 @@ impl PagedTables {
         PageName { tty: owner, serial }
     }
 
-    /// The page of a home has another name.
-    pub fn rename(&mut self, home: Home, name: PageName)
-        requires { home.0 < length self.old.tables.names.items }
-        ensures { beside_of self.new ≡ record (beside_of self.old) { tables = with_name (beside_of self.old).tables home name } }
+    /// The page of a home has the name of an owner's next page.
+    pub fn rename(&mut self, home: Home, owner: Tty)
+        requires home { home.0 < length self.old.tables.names.items }
+        requires owner { IsOwner owner }
+        requires serial { serial_of self.old.serials owner < 2 ^ 63 }
+        ensures { beside_of self.new ≡ page_renamed (beside_of self.old) home owner }
     {
+        let name = self.take_name(owner);
         self.tables.names[home.0 as usize] = Some(name);
     }
 

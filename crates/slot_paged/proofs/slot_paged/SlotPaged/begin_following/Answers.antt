@@ -24,7 +24,6 @@ returns-clause-told g c d fits =
     let f = c.args.fork in
     let stored = g.S.Store.means.homes c.begin_following-home.new.store in
     let words = following_words c.args.leader.serial SPACE_PAGES in
-    let within : k < length b.tables.maps = omega (arith, s.kept.rooted.numbered.count, r.below, r.terminal) in
     let now = beside_of (record s.tables { tables = c.begin_following-home.new.tables; living = s.tables.living + 1 }) in
     let same : now ≡ with_fork b k f home = ap (λ (t : Tables). record b { tables = t; living = b.living + 1 }) m.tables in
     let fits' = subst (λ (ps : List HomePlace). FitsMaps (with_root b.tables k f home) ps d) m.made.homes (subst (λ (t : Tables). FitsMaps t stored d) m.tables (m.fits d fits.maps)) in

@@ -2,7 +2,7 @@ use Rattle.std.proofs.Common.{◌≡◌, ℕ, subst, arith}
 use Rattle.slot_paged.specs.FiledSteps.{EmptiesFiled}
 use Rattle.slot_paged.specs.PagedTables.{beside_of}
 use Rattle.slot_paged.proofs.FilingEnds.{empties_more, empties_none}
-use Rattle.slot_paged.proofs.slot_paged.SlotPaged.unfile_all.Goals as goal
+use Rattle.slot_paged.proofs.slot_paged.SlotPaged.drop_file.Goals as goal
 
 pub loop-page-init : goal.loop-page-init
 loop-page-init g c = (let s = c.args.self.now in empties_none g.S.Store.means c.args.file.0 s.store (beside_of s.tables) s.kept (g.met.S.Store.sound s.store))
