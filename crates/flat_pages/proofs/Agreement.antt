@@ -12,7 +12,7 @@ use Rattle.machine_names.specs.declared.names.ForkName.{ForkName}
 use Rattle.machine_names.specs.declared.names.PageName.{PageName}
 use Rattle.page_homes.specs.declared.homes.Home.{Home}
 use Rattle.machine_names.specs.declared.names.Access.{Access}
-use Rattle.machine_names.specs.declared.names.TheConstants.{SPACE_PAGES}
+use Rattle.machine_names.specs.declared.names.TheConstants.{SPACE_PAGES, TERMINALS}
 use Rattle.plain_pages.specs.declared.map.MapEntry.{MapEntry}
 use Rattle.plain_pages.specs.declared.map.MapEntry.TheVariants as entry
 use Rattle.page_contracts.specs.DrumWords.{DrumWords}
@@ -311,6 +311,7 @@ module _ (t : Tables) (a : AreTables t) where
       named = λ x. named x (housed t.names x);
       words = λ x w e. words x w (housed t.names x) e;
       entries = λ f m e. entries f m e;
+      owned = λ f e. owned f e;
       old = λ x e. old x (housed t.names x) e;
       owners = a.owners;
     }
@@ -329,6 +330,12 @@ module _ (t : Tables) (a : AreTables t) where
               let is : entries_of t.names (map_at t.maps r.0) ≡ m = (let z : Some (entries_of t.names (map_at t.maps r.0)) ≡ Some m = sym (get_living t.names t.maps a.held.once f r.0 r.2) ∙ e in cc z) in
               ap length (sym is) ∙ length-map (map_at t.maps r.0).entries (entry_of t.names) ∙ a.held.pages r.0 (fork_within t.maps r.0 f r.2)
           | inr r ↦ absurd (let z : None ≡ Some m = sym (get_gone t.names t.maps f r.1) ∙ e in cc z)
+        ]
+
+        owned : (f : ForkName) → is_some (fin.get p.maps f) ≡ true → f.tty.0 < TERMINALS
+        owned f e = elim (searched t.maps f) [
+          | inl r ↦ omega (arith, a.held.from r.0 f r.2, fork_within t.maps r.0 f r.2, a.held.count)
+          | inr r ↦ absurd (let z : false ≡ true = sym (ap is_some (get_gone t.names t.maps f r.1)) ∙ e in cc z)
         ]
 
         old : (x : PageName) → Housed t.names x → is_some (fin.get p.objects x) ≡ true → x.serial < page_serial p x.tty

@@ -1,4 +1,4 @@
--- A slot whose page is put into a file.
+-- A slot whose page is put into a file, and what that leaves.
 use Rattle.std.proofs.Common.{◌≡◌, ℕ, Bool, Option, None, Some, refl, sym, ◌∙◌, ap, subst, is_some}
 use Rattle.std.specs.Prelude.{IfSome}
 use Rattle.std.specs.Option.{option_map, option_and_then}
@@ -6,21 +6,27 @@ use Rattle.machine_names.specs.declared.names.ForkName.{ForkName}
 use Rattle.machine_names.specs.declared.names.Slot.{Slot}
 use Rattle.machine_names.specs.declared.names.Kind.TheVariants.{Read}
 use Rattle.machine_names.specs.declared.names.Place.TheVariants.{Fork}
-use Rattle.machine_names.specs.Orders.{FilePage}
+use Rattle.machine_names.specs.declared.names.FileNo.{FileNo}
+use Rattle.machine_names.specs.Orders.{FilePage, file_page}
+use Rattle.plain_pages.specs.FilePages.{filed_by, with_file}
 use Rattle.page_homes.specs.declared.homes.Home.{Home}
 use Rattle.page_contracts.specs.declared.answers.Touch.TheVariants.{Ready}
+use Rattle.page_contracts.specs.Changes.{FilePageSet}
+use Rattle.page_contracts.specs.DrumWords.{DrumWords}
 use Rattle.page_contracts.specs.Pages.{FilesOne, IsPlace}
 use Rattle.page_contracts.specs.Stores.{StoreMeaning, away_at}
 use Rattle.flat_pages.specs.declared.chain_walk.Walk.{Walk}
 use Rattle.flat_pages.specs.declared.map_tables.MapTables.{MapTables}
-use Rattle.flat_pages.specs.HeldMaps.{index_of, name_of}
-use Rattle.flat_pages.specs.SlotTables.{Tables, AreTables}
+use Rattle.flat_pages.specs.HeldMaps.{index_of, living_of, name_of}
+use Rattle.flat_pages.specs.Serials.{serial_of}
+use Rattle.flat_pages.specs.SlotTables.{Tables, AreTables, plain_of}
 use Rattle.flat_pages.specs.SlotMeaning.{slots_meaning}
 use Rattle.flat_pages.specs.SlotTouches.{home_at, scene_of, touch_of_place, touch_walked, walk_of}
 use Rattle.flat_pages.specs.FileSteps.{IsNamed, SetsFile}
 use Rattle.flat_pages.specs.TableSteps.{tables_of}
 use Rattle.flat_pages.specs.Walks.{lets_along, use_of}
 use Rattle.flat_pages.proofs.FiledHomes.{get_filed}
+use Rattle.flat_pages.proofs.MapHomes.{sets_file}
 use Rattle.flat_pages.proofs.Meeting.{found_walk, home_let, ready_from}
 
 -- what holds of a slot that is given
@@ -57,3 +63,21 @@ files_one store part mt p q f o k named is = record {
     same : (o : Option Home) → is_some (option_map (name_of (mt q).names.items) o) ≡ is_some o
     same None = refl
     same (Some h) = refl
+
+-- a page of a file was set
+pub page_set : {P S : Type 0} (store : StoreMeaning S) (part : P → S) (mt : P → MapTables) (p q : P) → AreTables (tables_of (store.homes (part p)) (mt p)) → AreTables (tables_of (store.homes (part q)) (mt q)) → (file : FileNo) (page : ℕ) (from : Option Slot) (home : Option Home)
+    → SetsFile store (part p) (part q) (mt p) (mt q) (file_page file.0 page) home → is_some home ≡ is_some from
+    → ((d : DrumWords) → filed_by (plain_of (tables_of (store.homes (part p)) (mt p)) d) (file_page file.0 page) from ≡ with_file (plain_of (tables_of (store.homes (part p)) (mt p)) d) (file_page file.0 page) (option_map (name_of (mt p).names.items) home))
+    → FilePageSet (slots_meaning store part (λ x. tables_of (store.homes (part x)) (mt x))) file page from p q
+page_set store part mt p q a a' file page from home k same named = record {
+  told = λ d fits. (let r = k.told d fits in (r.0, r.1 ∙ sym (named d)));
+  scene = k.core;
+  filed = files_one store part mt p q (file_page file.0 page) home k (is_some from) same;
+  sets = sets_file store part (λ x. tables_of (store.homes (part x)) (mt x)) p q (record { tty = record { 0 = 0 }; serial = 0 }) a a' (file_page file.0 page) refl refl k.homes;
+  loses = k.lost;
+  uses = k.used;
+  lives = λ i f. is_some (index_of (k.maps i) f);
+  forks = ap living_of k.maps;
+  serials = ap serial_of k.serials;
+  most = k.limit;
+}

@@ -21,6 +21,7 @@ use Rattle.page_homes.specs.declared.homes.Home.{Home}
 use Rattle.page_contracts.specs.declared.answers.Touch.{Touch}
 use Rattle.page_contracts.specs.declared.answers.Touch.TheVariants.{Ready, Zero, Copy, Absent, NeedFrame, Denied, Full}
 use Rattle.page_contracts.specs.DrumWords.{DrumWords}
+use Rattle.page_contracts.specs.Changes.{PageSettled}
 use Rattle.page_contracts.specs.Pages.{FilesMade, PagesMeaning, SettlesHome, SettlesTo, StandsAt, StandsInFile, TakesFrames, UsesPlace, MayLose, map_set, spot_of, IsPlace, absent_or, framed, can_settle, frames_taken}
 use Rattle.page_contracts.specs.Stores.{StoreMeaning, HomePlace, IsSound, IsUsed, Loses, RenewsOne, FitsHomes, free, here, place, is_here, away_at, away_home, traffic}
 use Rattle.page_contracts.proofs.Losing.{loses_made, loses_used, made_one, used_one}
@@ -29,7 +30,7 @@ use Rattle.plain_pages.specs.References.{in_file, blank, make, next_making, next
 use Rattle.plain_pages.proofs.Made.{is_filed}
 use Rattle.plain_pages.proofs.ReferencesMade.{settled_makes, settled_stays}
 use Rattle.flat_pages.specs.declared.map_tables.MapTables.{MapTables}
-use Rattle.flat_pages.specs.HeldMaps.{name_at, name_of, nobody, maps_held}
+use Rattle.flat_pages.specs.HeldMaps.{index_of, living_of, name_at, name_of, nobody, maps_held}
 use Rattle.flat_pages.specs.Serials.{serial_of, with_next}
 use Rattle.flat_pages.specs.SlotTables.{Tables, plain_of, files_held, share_of, AreTables, AreSized}
 use Rattle.flat_pages.specs.SlotTouches.{home_named, scene_of, has_room, touch_filed, touch_of_place}
@@ -49,7 +50,7 @@ use Rattle.flat_pages.proofs.Told.{entry_still, told_made}
 use Rattle.flat_pages.proofs.Touching.{home_is}
 use Rattle.flat_pages.proofs.NextSerials.{next_own, next_other}
 use Rattle.flat_pages.proofs.Rooming.{here_when}
-use Rattle.flat_pages.proofs.Using.{made_here, no_map_home, used_here}
+use Rattle.flat_pages.proofs.Using.{home_filed_at, made_here, no_map_home, stands_filed, used_here}
 
 -- what is told of the tables once a page of a file is settled
 pub record SettlesInFile (t u : Tables) (frames frames' : ℕ) (file : FileNo) (page : ℕ) (kind : Kind) (owner : Tty) : Type 0 where
@@ -202,12 +203,6 @@ module _ (t : Tables) (a : AreTables t) (pages : ArePages t) (frames : ℕ) (fil
           names_still : files_held u.names t.files ≡ files_held t.names t.files
           names_still = files_still t.names u.names t.files h.0 (omega (arith, no_name, a.shares h.0)) name_other
 
--- the page that a file names, and its home
-pub filed_stands : (t : Tables) → AreTables t → (f : FilePage ℕ) (h : Home) → fin.get t.files f ≡ Some h → (n : PageName) × (filed_in t f ≡ Some n) × (home_named t.names n ≡ Some h.0)
-filed_stands t a f h there =
-    let n = filed_named t a f h there in
-    (n.0, get_filed t.names t.files f ∙ ap (option_map (name_of t.names)) there ∙ ap (λ (o : Option PageName). Some (unwrap_or o nobody)) n.1, home_is t.names h.0 n.0 n.1 (λ k e. a.once k h.0 n.0 e n.1))
-
 -- what a file's page names once it is settled
 abbrev FiledThen : Tables → Tables → FilePage ℕ → Touch → Type 0
 FiledThen t u f Zero = (is_some (filed_in u f) ≡ true) × ((g : FilePage ℕ) → g ≢ f → filed_in u g ≡ filed_in t g)
@@ -290,34 +285,19 @@ module _ {S : Type 0} (store : StoreMeaning S) (old new : S) (sound : IsSound st
       by None is k = by_making is k
       by (Some h) is k = by_use h is k
 
--- what is told of pages once the page of a place is settled
-pub record AtPlace {P : Type 0} (means : PagesMeaning P) (at : Place) (kind : Kind) (owner : Tty) (p q : P) : Type 0 where
-  pub told : (d : DrumWords) → means.fits p d → means.fits q d × (means.plain q d ≡ settled (means.plain p d) (spot_of at) kind owner)
-  pub settles : SettlesTo (means.touched p at kind) (means.touched q at kind)
-  pub scene : TakesFrames (means.scene p) (means.scene q) (frames_taken (means.touched p at kind))
-  pub count : means.count q ≡ means.count p + frames_taken (means.touched p at kind)
-  pub loses : MayLose means p q
-  pub uses : UsesPlace means at kind p q
-  pub homes : SettlesHome means at p q
-  pub filed : FilesMade means at (means.touched p at kind) p q
-  pub ready : (home : ℕ) → means.touched p at kind ≡ Ready → StandsAt means p at home → IsUsed means.store home p q
-
+-- what is told of pages then
 module _ {P S : Type 0} (store : StoreMeaning S) (part : P → S) (mt : P → MapTables) (p q : P) (a : AreTables (tables_of (store.homes (part p)) (mt p))) (a' : AreTables (tables_of (store.homes (part q)) (mt q))) (file : FileNo) (page : ℕ) (kind : Kind) (owner : Tty) where
+  abbrev tables : P → Tables
+  tables x = tables_of (store.homes (part x)) (mt x)
+
   abbrev means : PagesMeaning P
-  means = slots_meaning store part (λ x. tables_of (store.homes (part x)) (mt x))
+  means = slots_meaning store part tables
 
   abbrev w : Tables
-  w = tables_of (store.homes (part p)) (mt p)
+  w = tables p
 
   abbrev w' : Tables
-  w' = tables_of (store.homes (part q)) (mt q)
-
-  stands_home : (h : Home) → fin.get (mt p).files (file_page file.0 page) ≡ Some h → (home : ℕ) → StandsInFile means p (file_page file.0 page) home → h.0 ≡ home
-  stands_home h there home stands =
-      let n = filed_stands w a (file_page file.0 page) h there in
-      let same : n.0 ≡ stands.name = (let z : Some n.0 ≡ Some stands.name = sym n.1 ∙ stands.named in cc z) in
-      let z : Some h.0 ≡ Some home = sym n.2 ∙ ap (home_named w.names) same ∙ stands.there in
-      cc z
+  w' = tables q
 
   filed_made : (x : Touch) → FiledThen w w' (file_page file.0 page) x → FilesMade means (File file page) x p q
   filed_made Zero k = record { set = k.0; others = k.1 }
@@ -328,30 +308,34 @@ module _ {P S : Type 0} (store : StoreMeaning S) (part : P → S) (mt : P → Ma
   filed_made (Denied other) k = k
   filed_made Full k = k
 
-  place_settled : FileSettled store (part p) (part q) (mt p) (mt q) file page kind owner → AtPlace means (File file page) kind owner p q
+  place_settled : FileSettled store (part p) (part q) (mt p) (mt q) file page kind owner → PageSettled means (File file page) kind owner p q
   place_settled k = record {
     told = k.settles.told;
     settles = k.settles.settles;
     scene = k.settles.scene;
     count = k.settles.count;
     loses = k.loses;
-    uses = (let n = filed_stands w' a' (file_page file.0 page) k.home k.named in record {
+    uses = record {
       home = k.home.0;
-      stands = record { name = n.0; named = n.1; there = n.2 };
+      stands = stands_filed store part tables q a' (file_page file.0 page) k.home k.named;
       here = k.here;
       map = None;
       of_fork = λ at none. absurd (cc none);
       set = λ d fits. no_map_home (map_set (next_making (means.plain p d) (in_file (file_page file.0 page)) kind));
       ages = k.renews;
-    });
-    homes = (let n = filed_stands w' a' (file_page file.0 page) k.home k.named in
-        settles_home store part (λ x. tables_of (store.homes (part x)) (mt x)) p q (record { tty = record { 0 = 0 }; serial = 0 }) a a' (File file page) k.home.0 refl refl k.places k.names (record { name = n.0; named = n.1; there = n.2 }) k.here k.own_place);
+    };
+    homes = settles_home store part tables p q (record { tty = record { 0 = 0 }; serial = 0 }) a a' (File file page) k.home.0 refl refl k.places k.names (stands_filed store part tables q a' (file_page file.0 page) k.home k.named) k.here k.own_place;
     filed = filed_made (touch_of_place w (store.spare (part p)) (File file page) kind) k.filed;
-    ready = λ home r stands. (let u = k.used r in used_within store part home p q (subst (λ (n : ℕ). IsUsed store n (part p) (part q)) (stands_home k.home u.1 home stands) u.0));
+    ready = λ home r stands. (let u = k.used r in used_within store part home p q (subst (λ (n : ℕ). IsUsed store n (part p) (part q)) (home_filed_at store part tables p a (file_page file.0 page) k.home u.1 home stands) u.0));
+    lives = λ i f. is_some (index_of (k.maps i) f);
+    forks = ap living_of k.maps;
+    serial = k.own;
+    serials = k.serials;
+    most = k.limit;
   }
 
-  pub settled_at : (at : Place) → at ≡ File file page → FileSettled store (part p) (part q) (mt p) (mt q) file page kind owner → AtPlace means at kind owner p q
-  settled_at at is k = subst (λ (x : Place). AtPlace means x kind owner p q) (sym is) (place_settled k)
+  pub settled_at : (at : Place) → at ≡ File file page → FileSettled store (part p) (part q) (mt p) (mt q) file page kind owner → PageSettled means at kind owner p q
+  settled_at at is k = subst (λ (x : Place). PageSettled means x kind owner p q) (sym is) (place_settled k)
 
 -- what is asked of a page of a file that is to be settled
 pub ready_at : (t : Tables) (frames : ℕ) (at : Place) (file : FileNo) (page : ℕ) (kind : Kind) → at ≡ File file page → can_settle (touch_of_place t frames at kind) ≡ true → can_settle (touch_of_place t frames (File file page) kind) ≡ true

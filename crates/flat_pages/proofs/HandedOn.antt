@@ -34,6 +34,8 @@ module _ {P S : Type 0} (store : StoreMeaning S) (part : P → S) where
     later = c.later;
     read = c.read;
     wrote = c.wrote;
+    reads_later = c.reads_later;
+    writes_later = c.writes_later;
     failed = λ is. (let s = c.failed is in record { there = stays_within p q s.there; queued = record { queue = s.queued.queue; untold = s.queued.untold }; holds = s.holds });
     uncounted = c.uncounted;
     size = c.size;

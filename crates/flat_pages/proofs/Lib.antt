@@ -40,3 +40,7 @@ pub mod Numbering
 pub mod Using
 pub mod FileSettles
 pub mod MapHomes
+pub mod SlotSettles
+pub mod EntryChanges
+pub mod ForkChanges
+pub mod FoundPages

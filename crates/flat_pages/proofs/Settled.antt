@@ -31,7 +31,7 @@ use Rattle.plain_pages.proofs.Reading.{mark_there}
 use Rattle.plain_pages.proofs.ReferencesMade.{settled_makes, settled_stays}
 use Rattle.flat_pages.specs.declared.held_entry.EntryAt.{EntryAt}
 use Rattle.flat_pages.specs.declared.held_entry.HeldEntry.{HeldEntry}
-use Rattle.flat_pages.specs.declared.held_entry.HeldEntry.TheVariants.{Empty, Page}
+use Rattle.flat_pages.specs.declared.held_entry.HeldEntry.TheVariants.{Empty, Page, Follows}
 use Rattle.flat_pages.specs.declared.held_map.HeldMap.{HeldMap}
 use Rattle.flat_pages.specs.declared.map_tables.MapTables.{MapTables}
 use Rattle.flat_pages.specs.declared.chain_walk.Walk.{Walk}
@@ -198,6 +198,25 @@ module _ (t : Tables) (a : AreTables t) (frames : ℕ) (s : Slot) (kind : Kind) 
       by true k = refl
       by false k = absurd (cc k)
 
+  -- there is room for it, and a frame
+  pub zero_fits : w.home ≡ None → (has_room t 1 ≡ true) × (0 < frames)
+  zero_fits none = by (copy_of kind w) (sym (ap (λ h. can_settle (touch_made (away_at t.places) t scene h (copy_of kind w))) none) ∙ can)
+    where
+      both : (room some : Bool) → can_settle (cond room (cond some Zero NeedFrame) Full) ≡ true → (room ≡ true) × (some ≡ true)
+      both true true k = (refl, refl)
+      both true false k = absurd (cc k)
+      both false some k = absurd (cc k)
+
+      above : nat_lt 0 frames ≡ true → 0 < frames
+      above some = grind (arith, nat_tests, some)
+
+      fewer : has_room t 2 ≡ true → has_room t 1 ≡ true
+      fewer two = grind (arith, nat_tests, two)
+
+      by : (m : Option EntryAt) → can_settle (touch_made (away_at t.places) t scene None m) ≡ true → (has_room t 1 ≡ true) × (0 < frames)
+      by None k = let b = both (has_room t 1) (nat_lt 0 frames) k in (b.0, above b.1)
+      by (Some m) k = let b = both (has_room t 2) (nat_lt 0 frames) k in (fewer b.0, above b.1)
+
   -- for a copy
   pub can_copy : (h : Home) (m : EntryAt) → w.home ≡ Some h → copy_of kind w ≡ Some m → CanCopy t frames s kind h m
   can_copy h m home some =
@@ -213,6 +232,9 @@ module _ (t : Tables) (a : AreTables t) (frames : ℕ) (s : Slot) (kind : Kind) 
       by : (o : Option ℕ) → can_settle (absent_or o Ready) ≡ true → o ≡ None
       by None k = refl
       by (Some x) k = absurd (cc k)
+
+  pub is_ready : (h : Home) → w.home ≡ Some h → copy_of kind w ≡ None → touch ≡ Ready
+  is_ready h home none = made_is ∙ (λ i. touch_made (away_at t.places) t scene (home i) (none i)) ∙ ap (λ o. absent_or o Ready) (ready_away h home none)
 
   pub home_here : (h : Home) → w.home ≡ Some h → away_at t.places h.0 ≡ None → is_here (place t.places h.0) ≡ true
   home_here h home in_core = here_when t.places h.0 (home_taken_is t a s w walk_found h home) in_core
@@ -291,6 +313,17 @@ module _ (t : Tables) (a : AreTables t) (frames : ℕ) (s : Slot) (kind : Kind) 
   -- and names the page at the end, if it names one
   pub alone_home : (h : Home) (m : EntryAt) (g : Home) (b : Access) → w.home ≡ Some h → copy_of kind w ≡ Some m → held_entry t.maps m ≡ Some (Page g b) → g ≡ h
   alone_home h m g b home some there = (let z : Some g ≡ Some h = sym (marked_home t.maps m g b there start w starts (copy_marked m some)) ∙ home in cc z)
+
+  -- the page to be copied is in a frame
+  pub copy_here : (h : Home) (m : EntryAt) → w.home ≡ Some h → copy_of kind w ≡ Some m → is_here (place t.places h.0) ≡ true
+  copy_here h m home some = home_here h home (can_copy h m home some).away
+
+  -- it has another name, where it is not that of the entry with the mark, or has more names than one
+  pub copy_shared : (h : Home) (m : EntryAt) (e : HeldEntry) → w.home ≡ Some h → copy_of kind w ≡ Some m → held_entry t.maps m ≡ Some e → ((g : Home) (b : Access) → e ≡ Page g b → share_of t.shares h.0 ≢ 1) → is_alone t.shares (held_entry t.maps m) ≡ false
+  copy_shared h m Empty home some there more = ap (is_alone t.shares) there
+  copy_shared h m (Follows l b) home some there more = ap (is_alone t.shares) there
+  copy_shared h m (Page g b) home some there more =
+      ap (is_alone t.shares) there ∙ ap (λ (x : Home). is_alone t.shares (Some (Page x b))) (alone_home h m g b home some there) ∙ not_one (share_of t.shares h.0) (more g b refl)
 
   copy_walk : (h : Home) (m : EntryAt) (b : Access) (q : HeldEntry) → copy_of kind w ≡ Some m → held_entry t.maps m ≡ Some q → b.c ≡ false → b.w ≡ true → Copies h (walk (with_entry t.maps m (Page h b)) start)
   copy_walk h m b q some there plain writable =
@@ -386,6 +419,24 @@ module _ (t : Tables) (a : AreTables t) (frames : ℕ) (s : Slot) (kind : Kind) 
           ∙ sym (settled_makes p owner (in_map s) kind (copy k.link.slot (private_access c)) []
           (list ∙ λ i. Some (blanks_some t a frames d sized owner own start s start_slot kind c w walk_found.is walk_found.meets yes old home i ++ k.list i)))
 
+abbrev pub ArePages : Tables → Type 0
+ArePages t = (h : ℕ) (words : List ℕ) → place t.places h ≡ here words → IsPage words
+
+-- a page that is there is used
+pub used_settled : (t : Tables) (a : AreTables t) → ArePages t → (frames : ℕ) (s : Slot) (kind : Kind) (w : Walk) (r : Announced t frames s kind w) (owner : Tty) → IsOwner owner → (h : Home) → w.home ≡ Some h → copy_of kind w ≡ None
+    → Settles t t frames frames (Fork s) kind owner
+used_settled t a pages frames s kind w r owner own h home none =
+    let is = is_ready t a frames s kind w r h home none in
+    record {
+      told = λ d fits. (fits, stays_told t a frames s kind w r d (sized_of t.places d fits pages) owner own h home none);
+      settles = subst (λ (x : Touch). SettlesTo x (touch_of_place t frames (Fork s) kind)) (sym is) is;
+      scene = subst (λ (x : Touch). TakesFrames (scene_of t frames) (scene_of t frames) (frames_taken x)) (sym is) (record { maps = refl; pages = refl; frames = omega arith });
+      count = subst (λ (x : Touch). t.taken + t.living ≡ t.taken + t.living + frames_taken x) (sym is) (omega arith);
+      lives = refl;
+      forks = refl;
+      filed = refl;
+    }
+
 -- a free home's page is named by no entry
 pub unused : (t : Tables) → AreTables t → (h : ℕ) → place t.places h ≡ free → share_of t.shares h ≡ 0
 unused t a h is = none_shared (share_of t.shares h) (sym (a.shared h) ∙ sym (a.is_taken h) ∙ ap is_taken is)
@@ -398,9 +449,6 @@ renamed_files : (t : Tables) (a : AreTables t) (owner : Tty) (home : ℕ) (at : 
     → files_held (slice_set t.names home (Some (next_name t.serials owner))) t.files ≡ files_held t.names t.files
 renamed_files t a owner home at q there alone =
     files_still t.names (slice_set t.names home (Some (next_name t.serials owner))) t.files home (none_filed t a at q home there alone) (λ k ne. get_or-set_other t.names home k (Some (next_name t.serials owner)) None ne)
-
-abbrev pub ArePages : Tables → Type 0
-ArePages t = (h : ℕ) (words : List ℕ) → place t.places h ≡ here words → IsPage words
 
 -- a home is taken for a page
 module _ (t : Tables) (a : AreTables t) (pages : ArePages t) (frames : ℕ) (s : Slot) (kind : Kind) (w : Walk) (r : Announced t frames s kind w) (owner : Tty) (own : IsOwner owner) (h : Home) (below : h.0 < t.limit) (was_free : place t.places h.0 ≡ free) (frames' : ℕ) (taken : frames' + 1 ≡ frames) where
@@ -514,6 +562,11 @@ module _ {S : Type 0} (store : StoreMeaning S) (old new : S) (sound : IsSound st
 
   at_place : Settles t t' (store.spare old) (store.spare new) (Fork s) kind owner → Settles t t' (store.spare old) (store.spare new) at kind owner
   at_place = subst (λ (x : Place). Settles t t' (store.spare old) (store.spare new) x kind owner) (sym is)
+
+  pub used_stored : (h : Home) → w.home ≡ Some h → copy_of kind w ≡ None → t' ≡ t → IsUsed store h.0 old new → Settles t t' (store.spare old) (store.spare new) at kind owner
+  used_stored h home none same used =
+      at_place (subst (λ (x : Tables). Settles t x (store.spare old) (store.spare new) (Fork s) kind owner) (sym same)
+      (subst (λ n. Settles t t (store.spare old) n (Fork s) kind owner) (sym used.framed.spare) (used_settled t a sound.pages (store.spare old) s kind w r owner own h home none)))
 
   pub zero_stored : w.home ≡ None → TakesHome store old new tables tables' w.end (here zero_words) full_access owner → Settles t t' (store.spare old) (store.spare new) at kind owner
   zero_stored none k =

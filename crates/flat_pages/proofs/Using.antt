@@ -16,17 +16,17 @@ use Rattle.plain_pages.specs.References.{next_making}
 use Rattle.page_contracts.specs.declared.answers.Found.{Found}
 use Rattle.page_contracts.specs.declared.answers.SpaceHandle.{SpaceHandle}
 use Rattle.page_contracts.specs.declared.answers.Touch.{Touch}
-use Rattle.page_contracts.specs.declared.answers.Touch.TheVariants.{Ready, Zero, Copy, NeedFrame, Full}
-use Rattle.page_contracts.specs.Pages.{FilesMade, PagesMeaning, SettlesHome, StandsAt, StandsInSpace, TouchNeeds, UsesPlace, absent_or, framed, is_in_core, map_set, spot_of}
+use Rattle.page_contracts.specs.declared.answers.Touch.TheVariants.{Ready, Zero, Copy, Absent, NeedFrame, Full}
+use Rattle.page_contracts.specs.Pages.{FilesMade, IsOfFilePage, PagesMeaning, Scene, SettlesHome, StandsAt, StandsInFile, StandsInSpace, TouchNeeds, UsesPlace, absent_or, framed, is_in_core, map_set, spot_of}
 use Rattle.page_contracts.specs.Stores.{StoreMeaning, HomePlace, free, away, here, IsMade, IsSound, IsUsed, RenewsOne, away_at, away_home, free_homes, is_here, is_taken, place, traffic}
 use Rattle.flat_pages.specs.declared.chain_walk.Walk.{Walk}
 use Rattle.flat_pages.specs.declared.held_entry.EntryAt.{EntryAt}
 use Rattle.flat_pages.specs.HeldMaps.{index_of, held_entry, name_at, name_of, nobody}
-use Rattle.flat_pages.specs.SlotMeaning.{filed_in, place_along, slots_meaning, within}
+use Rattle.flat_pages.specs.SlotMeaning.{place_along, slots_meaning, within}
 use Rattle.flat_pages.specs.SlotTables.{Tables, files_held, AreTables}
 use Rattle.flat_pages.specs.Walks.{walk}
-use Rattle.flat_pages.specs.SlotTouches.{has_room, is_alone, scene_of, touch_copy, home_at, home_named, touch_filed, touch_made, walk_of}
-use Rattle.machine_names.specs.Orders.{file_page}
+use Rattle.flat_pages.specs.SlotTouches.{has_room, is_alone, scene_of, touch_copy, home_at, home_named, touch_filed, touch_made, touch_of_place, walk_of}
+use Rattle.machine_names.specs.Orders.{FilePage, file_page}
 use Rattle.machine_names.specs.declared.names.PageName.{PageName}
 use Rattle.flat_pages.proofs.Agreement.{filed_named}
 use Rattle.flat_pages.proofs.FiledHomes.{get_filed}
@@ -68,6 +68,53 @@ module _ {P S : Type 0} (store : StoreMeaning S) (part : P → S) (tables : P �
   pub used_at : (q : P) → IsSound store (part p) → (h : Home) → w.home ≡ Some h → IsUsed store h.0 (part p) (part q) → IsUsed (within store part) home p q
   used_at q sound h is_home u = used_within store part home p q (subst (λ (k : ℕ). IsUsed store k (part p) (part q)) (stands_home sound h is_home) u)
 
+-- the page of a file stands at its home, and at no other
+module _ {P S : Type 0} (store : StoreMeaning S) (part : P → S) (tables : P → Tables) (p : P) (a : AreTables (tables p)) (f : FilePage ℕ) (h : Home) (is : fin.get (tables p).files f ≡ Some h) where
+  abbrev t : Tables
+  t = tables p
+
+  its_name : (n : PageName) × (name_at t.names h.0 ≡ Some n)
+  its_name = filed_named t a f h is
+
+  pub stands_filed : StandsInFile (slots_meaning store part tables) p f h.0
+  stands_filed = record {
+    name = its_name.0;
+    named = get_filed t.names t.files f ∙ ap (option_map (name_of t.names)) is ∙ ap (λ (o : Option PageName). Some (unwrap_or o nobody)) its_name.1;
+    there = home_is t.names h.0 its_name.0 its_name.1 (λ k e. a.once k h.0 its_name.0 e its_name.1);
+  }
+
+  pub home_filed_at : (home : ℕ) → StandsInFile (slots_meaning store part tables) p f home → h.0 ≡ home
+  home_filed_at home stands =
+      let same : stands_filed.name ≡ stands.name = (let z : Some stands_filed.name ≡ Some stands.name = sym stands_filed.named ∙ stands.named in cc z) in
+      let z : Some h.0 ≡ Some home = sym stands_filed.there ∙ ap (home_named t.names) same ∙ stands.there in
+      cc z
+
+-- a page that is in no frame is that of a file's place, where a touch or a look answers it of one
+module _ {P S : Type 0} (store : StoreMeaning S) (part : P → S) (tables : P → Tables) (p : P) (a : AreTables (tables p)) where
+  pub of_file_page : (at : Place) (h : Home) → home_at (tables p) at ≡ Some h → IsOfFilePage (slots_meaning store part tables) p at h.0
+  of_file_page (Fork s) h is = tt
+  of_file_page (File f page) h is = stands_filed store part tables p a (file_page f.0 page) h is
+
+  absent_filed : (kind : Kind) (o : Option Home) (x : Home) (scene : Scene) → touch_filed (away_at (tables p).places) (tables p) scene kind o ≡ Absent x → o ≡ Some x
+  absent_filed kind (Some h) x scene is = by (place (tables p).places h.0) is
+    where
+      by : (q : HomePlace) → absent_or (away_home q h.0) Ready ≡ Absent x → Some h ≡ Some x
+      by free k = absurd (cc k)
+      by away k = let same : h ≡ x = cc k in ap Some same
+      by (here words) k = absurd (cc k)
+  absent_filed Write None x scene is = absurd (by (has_room (tables p) 1) (nat_lt 0 scene.free_frames) is)
+    where
+      by : (room some : Bool) → cond room (cond some Zero NeedFrame) Full ≡ Absent x → ⊥
+      by true true k = cc k
+      by true false k = cc k
+      by false some k = cc k
+  absent_filed Read None x scene is = absurd (cc is)
+  absent_filed Execute None x scene is = absurd (cc is)
+
+  pub absent_of_file : (frames : ℕ) (at : Place) (kind : Kind) (x : Home) → touch_of_place (tables p) frames at kind ≡ Absent x → IsOfFilePage (slots_meaning store part tables) p at x.0
+  absent_of_file frames (Fork s) kind x is = tt
+  absent_of_file frames (File f page) kind x is = of_file_page (File f page) x (absent_filed kind (fin.get (tables p).files (file_page f.0 page)) x (scene_of (tables p) frames) is)
+
 -- the page of a place is that of its home, and so that is used
 module _ {P S : Type 0} (store : StoreMeaning S) (part : P → S) (tables : P → Tables) (p : P) (a : AreTables (tables p)) where
   pub place_used : (at : Place) (home : ℕ) (h : Home) → StandsAt (slots_meaning store part tables) p at home → home_at (tables p) at ≡ Some h → (q : P) → IsSound store (part p) → IsUsed store h.0 (part p) (part q) → IsUsed (within store part) home p q
@@ -77,10 +124,7 @@ module _ {P S : Type 0} (store : StoreMeaning S) (part : P → S) (tables : P �
       by None e k = absurd (cc k)
       by (Some w) e k = used_at store part tables p (Fork s) home stands s refl w e q sound h k u
   place_used (File f page) home h stands is q sound u =
-      let n = filed_named (tables p) a (file_page f.0 page) h is in
-      let named : filed_in (tables p) (file_page f.0 page) ≡ Some n.0 = get_filed (tables p).names (tables p).files (file_page f.0 page) ∙ ap (option_map (name_of (tables p).names)) is ∙ ap (λ (o : Option PageName). Some (unwrap_or o nobody)) n.1 in
-      let same : n.0 ≡ stands.name = (let z : Some n.0 ≡ Some stands.name = sym named ∙ stands.named in cc z) in
-      let at : h.0 ≡ home = (let z : Some h.0 ≡ Some home = sym (home_is (tables p).names h.0 n.0 n.1 (λ k e. a.once k h.0 n.0 e n.1)) ∙ ap (home_named (tables p).names) same ∙ stands.there in cc z) in
+      let at = home_filed_at store part tables p a (file_page f.0 page) h is home stands in
       used_within store part home p q (subst (λ (k : ℕ). IsUsed store k (part p) (part q)) at u)
 
 -- maps in memory have no homes

@@ -574,6 +574,19 @@ impl<S: Store> Pages for FlatSlots<S> {
     }
 
     #[inline(always)]
+    fn look(&self, space: SpaceHandle, found: Found, address: u32) -> Word {
+        self.store.look(found, (address % PAGE_ADDRESSES) as u16)
+    }
+
+    #[inline(always)]
+    fn used(&mut self, space: SpaceHandle, found: Found, address: u32) {
+        self.store.use_found(found);
+    }
+
+    #[inline(always)]
+    fn learn(&mut self, space: SpaceHandle, page: u16) {}
+
+    #[inline(always)]
     fn load(&mut self, space: SpaceHandle, found: Found, address: u32) -> Word {
         self.store.load(found, (address % PAGE_ADDRESSES) as u16)
     }
@@ -649,6 +662,10 @@ impl<S: Store> Pages for FlatSlots<S> {
 
     fn complete<D: Drum>(&mut self, drum: &mut D) -> Completed {
         self.store.complete(drum)
+    }
+
+    fn is_moving(&self) -> bool {
+        self.store.is_moving()
     }
 
     fn cancelled(&mut self) -> Option<Need> {

@@ -68,6 +68,14 @@ impl Store for FlatStore {
     }
 
     #[inline(always)]
+    fn look(&self, found: Found, at: u16) -> Word {
+        self.pages.word(found.0, at)
+    }
+
+    #[inline(always)]
+    fn use_found(&mut self, found: Found) {}
+
+    #[inline(always)]
     fn load(&mut self, found: Found, at: u16) -> Word {
         self.pages.word(found.0, at)
     }
@@ -112,6 +120,10 @@ impl Store for FlatStore {
 
     fn complete<D: Drum>(&mut self, drum: &mut D) -> Completed {
         Completed::Nothing
+    }
+
+    fn is_moving(&self) -> bool {
+        false
     }
 
     fn cancelled(&mut self) -> Option<Need> {

@@ -1,9 +1,10 @@
-use Rattle.std.proofs.Common.{◌≡◌, ◌∙◌, true, false, sym, ap}
+use Rattle.std.proofs.Common.{◌≡◌, ◌∙◌, Some, true, false, sym, ap}
 use Rattle.page_contracts.specs.Stores.{place, is_here}
 use Rattle.page_contracts.specs.declared.answers.Peeked.TheVariants.{Is}
 use Rattle.flat_pages.specs.TableSteps.{tables_of}
 use Rattle.flat_pages.proofs.Settling.{sized_of}
 use Rattle.flat_pages.proofs.Meeting.{reached, unreached, word_here, word_away, reached_taken, peek_here, peek_away, peek_none}
+use Rattle.flat_pages.proofs.Using.{of_file_page}
 use Rattle.flat_pages.proofs.flat_slots.FlatSlotsPages.peek.Goals as goal
 
 pub word-requires-clause-taken : goal.word-requires-clause-taken
@@ -49,3 +50,10 @@ returns-in-None-word-clause-needs g c =
     let t = tables_of (g.S.Store.means.homes s.store) s.tables in
     let r = reached t s.agree c.args.at c.in-Some.home c.requires.place c.in-Some.ensures in
     word_away (place t.places c.in-Some.home.0) c.args.offset (sym c.in-None-word.ensures) (reached_taken t s.agree c.args.at c.in-Some.home r)
+
+pub returns-in-None-word-clause-away : goal.returns-in-None-word-clause-away
+returns-in-None-word-clause-away g c home is =
+    let s = c.args.self.now in
+    let store = g.S.Store.means in
+    let same : c.in-Some.home ≡ home = cc is in
+    of_file_page store (λ p. p.store) (λ p. tables_of (store.homes p.store) p.tables) s s.agree c.args.at home (sym c.in-Some.ensures ∙ ap Some same)

@@ -11,7 +11,7 @@ use Rattle.flat_pages.specs.SlotTouches.{scene_with, touch_with}
 use Rattle.flat_pages.specs.SlotMeaning.{place_along}
 use Rattle.flat_pages.proofs.Settling.{fits_set}
 use Rattle.flat_pages.proofs.Telling.{tables_told}
-use Rattle.flat_pages.proofs.Meeting.{space_fork, placed}
+use Rattle.flat_pages.proofs.FoundPages.{stands}
 use Rattle.flat_pages.proofs.Putting.{replaced, put_away, put_tables, stored_at}
 use Rattle.page_contracts.proofs.Losing.{loses_used}
 use Rattle.flat_pages.proofs.HandedOn.{used_within}
@@ -21,8 +21,7 @@ pub invariant_of-self : goal.invariant_of-self
 invariant_of-self g c =
     let s = c.args.self.now in
     let t = tables_of (g.S.Store.means.homes s.store) s.tables in
-    let f = c.requires.space.fork in
-    let x = placed t s.agree (g.S.Store.means.found s.store) (g.met.S.Store.sound s.store).finds c.args.space.0 (c.args.address / 512) f (space_fork s.tables.maps.held.items f c.args.space c.requires.space.is) c.args.found c.requires.place in
+    let x = stands g.S.Store.means (λ p. p.store) (λ p. p.tables) s s.agree (g.met.S.Store.sound s.store) c.args.space c.args.address c.args.found c.requires.place c.requires.space.fork c.requires.space.is in
     let agree = subst (λ (places : List HomePlace). AreTables (replaced t places)) (sym (c.store.ensures.homes x.home.0 x.spots)) (put_tables t s.agree x.home.0 x.words x.holds (c.args.address % 512) c.args.word) in
     record { agree = agree; told = tables_told (tables_of (g.S.Store.means.homes c.store.new.self) s.tables) agree (g.met.S.Store.sound c.store.new.self).pages }
 
@@ -33,7 +32,7 @@ returns-clause-told g c d f fits is =
     let homes' = g.S.Store.means.homes c.store.new.self in
     let page = c.args.address / 512 in
     let offset = c.args.address % 512 in
-    let x = placed t s.agree (g.S.Store.means.found s.store) (g.met.S.Store.sound s.store).finds c.args.space.0 page f (space_fork s.tables.maps.held.items f c.args.space is) c.args.found c.requires.place in
+    let x = stands g.S.Store.means (λ p. p.store) (λ p. p.tables) s s.agree (g.met.S.Store.sound s.store) c.args.space c.args.address c.args.found c.requires.place f is in
     let h = x.home in
     let same = c.store.ensures.homes h.0 x.spots in
     let fits' = subst (λ (places : List HomePlace). FitsHomes places d) (sym same) (fits_set t.places d h.0 (with_word_in (place t.places h.0) offset c.args.word) fits) in
@@ -44,8 +43,7 @@ pub returns-clause-stays : goal.returns-clause-stays
 returns-clause-stays g c =
     let s = c.args.self.now in
     let t = tables_of (g.S.Store.means.homes s.store) s.tables in
-    let f = c.requires.space.fork in
-    let x = placed t s.agree (g.S.Store.means.found s.store) (g.met.S.Store.sound s.store).finds c.args.space.0 (c.args.address / 512) f (space_fork s.tables.maps.held.items f c.args.space c.requires.space.is) c.args.found c.requires.place in
+    let x = stands g.S.Store.means (λ p. p.store) (λ p. p.tables) s s.agree (g.met.S.Store.sound s.store) c.args.space c.args.address c.args.found c.requires.place c.requires.space.fork c.requires.space.is in
     let absent = ap away_at (c.store.ensures.homes x.home.0 x.spots) ∙ put_away t s.agree x.home.0 x.words x.holds (c.args.address % 512) c.args.word in
     let used = c.store.ensures.used x.home.0 x.spots in
     record {
@@ -67,8 +65,7 @@ pub returns-clause-loses : goal.returns-clause-loses
 returns-clause-loses g c =
     let s = c.args.self.now in
     let t = tables_of (g.S.Store.means.homes s.store) s.tables in
-    let f = c.requires.space.fork in
-    let x = placed t s.agree (g.S.Store.means.found s.store) (g.met.S.Store.sound s.store).finds c.args.space.0 (c.args.address / 512) f (space_fork s.tables.maps.held.items f c.args.space c.requires.space.is) c.args.found c.requires.place in
+    let x = stands g.S.Store.means (λ p. p.store) (λ p. p.tables) s s.agree (g.met.S.Store.sound s.store) c.args.space c.args.address c.args.found c.requires.place c.requires.space.fork c.requires.space.is in
     loses_used g.S.Store.means s.store c.store.new.self x.home.0 (c.store.ensures.used x.home.0 x.spots)
 
 pub returns-clause-uses : goal.returns-clause-uses

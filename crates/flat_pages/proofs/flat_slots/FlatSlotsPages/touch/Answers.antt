@@ -5,7 +5,7 @@ use Rattle.machine_names.specs.declared.names.Place.{Place}
 use Rattle.machine_names.specs.Orders.{file_page}
 use Rattle.page_contracts.specs.Pages.{touch_of, spot_of, is_in_core}
 use Rattle.flat_pages.specs.SlotTables.{plain_of}
-use Rattle.flat_pages.specs.SlotTouches.{scene_of, touch_filed, touch_walked, touch_made, copy_of}
+use Rattle.flat_pages.specs.SlotTouches.{scene_of, touch_filed, touch_of_place, touch_walked, touch_made, copy_of}
 use Rattle.flat_pages.proofs.Agreement.{filed_named}
 use Rattle.flat_pages.proofs.FileTouches.{file_told}
 use Rattle.page_contracts.specs.Stores.{away_at}
@@ -14,7 +14,7 @@ use Rattle.flat_pages.proofs.Meeting.{found_walk, home_taken_is, copy_held, plac
 use Rattle.flat_pages.proofs.Settling.{sized_of}
 use Rattle.page_contracts.specs.Pages.{TouchNeeds}
 use Rattle.flat_pages.specs.SlotMeaning.{within, sound_within}
-use Rattle.flat_pages.proofs.Using.{made_needs, filed_needs, made_core}
+use Rattle.flat_pages.proofs.Using.{absent_of_file, made_needs, filed_needs, made_core}
 use Rattle.flat_pages.proofs.flat_slots.FlatSlotsPages.touch.Goals as goal
 
 pub returns-in_default-clause-told : goal.returns-in_default-clause-told
@@ -98,3 +98,11 @@ returns-clause-core g c flat =
     let lives = place_lives (λ f. is_some (index_of s.tables.maps.held.items f)) c.args.at c.in-Fork.slot c.in-Fork.is c.requires in
     ap is_in_core c.made.ensures ∙ made_core (within g.S.Store.means (λ p. p.store)) s (sound_within g.S.Store.means (λ p. p.store) s (g.met.S.Store.sound s.store)) flat t s.agree refl c.in-Some.walk.home c.copy_for.result
     (home_taken_is t s.agree c.in-Fork.slot c.in-Some.walk (found_walk t s.agree c.in-Fork.slot c.in-Some.walk lives.0 (sym c.in-Some.ensures)))
+
+pub returns-in-File-clause-away : goal.returns-in-File-clause-away
+returns-in-File-clause-away g c home is =
+    let s = c.args.self.now in
+    let store = g.S.Store.means in
+    let t = tables_of (store.homes s.store) s.tables in
+    absent_of_file store (λ p. p.store) (λ p. tables_of (store.homes p.store) p.tables) s s.agree (store.spare s.store) c.args.at c.args.kind home
+    (ap (λ (x : Place). touch_of_place t (store.spare s.store) x c.args.kind) c.in-File.is ∙ sym (c.touch_filed.ensures ∙ ap (touch_filed (away_at t.places) t (scene_of t (store.spare s.store)) c.args.kind) c.filed.ensures) ∙ is)
