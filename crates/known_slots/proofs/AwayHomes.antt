@@ -19,10 +19,10 @@ use Rattle.pager_walk.specs.declared.paged_entry.Looked.TheVariants.{Is, Refused
 use Rattle.pager_walk.specs.declared.paged_entry.PagedEntry.{PagedEntry}
 use Rattle.pager_walk.specs.MapPages.{index_of, root_at}
 use Rattle.pager_walk.specs.PagedMaps.{entry_in, look_at, look_map, look_word, seen_for}
-use Rattle.slot_paged.specs.PageHomes.{homed, peeked_at, peeked_home, peeked_over}
-use Rattle.slot_paged.specs.PagedSlots.{map_home_over, paged_slots}
-use Rattle.slot_paged.specs.PagedTables.{Beside, AreKept}
-use Rattle.slot_paged.specs.PagedTouches.{file_touched, roomy, scene_over, touched_over}
+use Rattle.paged_tables.specs.PageHomes.{homed, peeked_at, peeked_home, peeked_over}
+use Rattle.paged_tables.specs.PagedSlots.{map_home_over, paged_slots}
+use Rattle.paged_tables.specs.PagedTables.{Beside, AreKept}
+use Rattle.paged_tables.specs.PagedTouches.{file_touched, roomy, scene_over, touched_over}
 use Rattle.known_slots.proofs.PlacesUsed.{stands_in_file}
 
 -- a page that is in no frame is that of the home that is told

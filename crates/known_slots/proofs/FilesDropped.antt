@@ -20,12 +20,12 @@ use Rattle.flat_pages.proofs.Agreement.{tables_whole}
 use Rattle.flat_pages.proofs.FileEnds.{fewer_without}
 use Rattle.flat_pages.proofs.FiledHomes.{get_filed}
 use Rattle.pager_walk.specs.PagedMaps.{name_at, name_of, nobody}
-use Rattle.slot_paged.specs.FiledSteps.{EmptiesFiled, PageStays, SetsFiled, SetsFilePage}
-use Rattle.slot_paged.specs.PagedSlots.{paged_slots}
-use Rattle.slot_paged.specs.PagedTables.{Beside, AreKept, FitsPages, in_memory_over, plain_over}
-use Rattle.slot_paged.proofs.FilingSteps.{some_name}
-use Rattle.slot_paged.proofs.Homed.{sized}
-use Rattle.slot_paged.proofs.MapsSame.{forks_same, lives_same}
+use Rattle.paged_tables.specs.FiledSteps.{EmptiesFiled, PageStays, SetsFiled, SetsFilePage}
+use Rattle.paged_tables.specs.PagedSlots.{paged_slots}
+use Rattle.paged_tables.specs.PagedTables.{Beside, AreKept, FitsPages, in_memory_over, plain_over}
+use Rattle.paged_tables.proofs.FilingSteps.{some_name}
+use Rattle.paged_tables.proofs.Homed.{sized}
+use Rattle.paged_tables.proofs.MapsSame.{forks_same, lives_same}
 use Rattle.known_slots.proofs.HousedPages.{named_is}
 use Rattle.known_slots.proofs.PlacesKept.{maps_same, pages_stay, sets_file}
 

@@ -13,14 +13,14 @@ use Rattle.flat_pages.specs.Serials.{serial_of}
 use Rattle.flat_pages.proofs.EmptyMaps.{core_on}
 use Rattle.pager_walk.specs.MapPages.{fork_at, index_of, root_at}
 use Rattle.pager_walk.proofs.NumberedMaps.{index_fork}
-use Rattle.slot_paged.specs.EndedForks.{fork_gone}
-use Rattle.slot_paged.specs.FreedEntries.{EndsFork}
-use Rattle.slot_paged.specs.PagedMeaning.{forks_in, lives_in}
-use Rattle.slot_paged.specs.PagedSlots.{filed_over, paged_slots}
-use Rattle.slot_paged.specs.PagedTables.{Beside, AreKept, FitsPages, plain_over}
-use Rattle.slot_paged.specs.PagedTouches.{scene_over}
-use Rattle.slot_paged.proofs.ForksEnded.{dropped_told}
-use Rattle.slot_paged.proofs.MapsSame.{forks_same}
+use Rattle.paged_tables.specs.EndedForks.{fork_gone}
+use Rattle.paged_tables.specs.FreedEntries.{EndsFork}
+use Rattle.paged_tables.specs.PagedMeaning.{forks_in, lives_in}
+use Rattle.paged_tables.specs.PagedSlots.{filed_over, paged_slots}
+use Rattle.paged_tables.specs.PagedTables.{Beside, AreKept, FitsPages, plain_over}
+use Rattle.paged_tables.specs.PagedTouches.{scene_over}
+use Rattle.paged_tables.proofs.ForksEnded.{dropped_told}
+use Rattle.paged_tables.proofs.MapsSame.{forks_same}
 use Rattle.known_slots.proofs.ForksLeft.{left_core, left_lives, left_lost, left_others, left_own, left_uses}
 use Rattle.known_slots.proofs.MapsDropped.{drops_map}
 

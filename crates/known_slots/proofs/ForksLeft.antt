@@ -20,12 +20,12 @@ use Rattle.flat_pages.specs.declared.held_map.HeldMap.{HeldMap}
 use Rattle.flat_pages.specs.HeldMaps as flat
 use Rattle.flat_pages.specs.SlotTouches.{home_named}
 use Rattle.flat_pages.proofs.Ending.{ended_lives, ended_other, ended_own}
-use Rattle.slot_paged.specs.EndedForks.{EmptiesFork, fork_gone}
-use Rattle.slot_paged.specs.PagedSlots.{map_home_over}
-use Rattle.slot_paged.specs.PagedMeaning.{forks_in, lives_in}
-use Rattle.slot_paged.specs.PagedTables.{Beside}
-use Rattle.slot_paged.specs.PagedTouches.{scene_over}
-use Rattle.slot_paged.proofs.NewForks.{bare_are_held, bare_at, bare_fork, bare_held, bare_index, bare_living}
+use Rattle.paged_tables.specs.EndedForks.{EmptiesFork, fork_gone}
+use Rattle.paged_tables.specs.PagedSlots.{map_home_over}
+use Rattle.paged_tables.specs.PagedMeaning.{forks_in, lives_in}
+use Rattle.paged_tables.specs.PagedTables.{Beside}
+use Rattle.paged_tables.specs.PagedTouches.{scene_over}
+use Rattle.paged_tables.proofs.NewForks.{bare_are_held, bare_at, bare_fork, bare_held, bare_index, bare_living}
 
 module _ (b : Beside) (n : AreNumbered b.tables.maps) (k : ℕ) (f : ForkName) (own : fork_at b.tables.maps k ≡ Some f) where
   abbrev held : List HeldMap

@@ -29,13 +29,13 @@ use Rattle.pager_walk.specs.MapPages.{fork_at, index_of, map_at, no_map, root_at
 use Rattle.pager_walk.specs.PagedMaps.{Tables, entry_for, entry_in, look_at, look_word, map_away, seen_for}
 use Rattle.pager_walk.proofs.Looking.{look_there}
 use Rattle.pager_walk.proofs.NumberedMaps.{Once, fork_tells, index_is}
-use Rattle.slot_paged.specs.AddedForks.{AddsFork, new_words}
-use Rattle.slot_paged.specs.PagedMeaning.{forks_in, lives_in}
-use Rattle.slot_paged.specs.PagedSlots.{filed_over, map_home_over, paged_slots}
-use Rattle.slot_paged.specs.PagedTables.{Beside, AreKept}
-use Rattle.slot_paged.specs.PagedTouches.{scene_over}
-use Rattle.slot_paged.proofs.NewForks.{fork_lives, forks_more, forks_others}
-use Rattle.slot_paged.proofs.StillScenes.{away_made}
+use Rattle.paged_tables.specs.AddedForks.{AddsFork, new_words}
+use Rattle.paged_tables.specs.PagedMeaning.{forks_in, lives_in}
+use Rattle.paged_tables.specs.PagedSlots.{filed_over, map_home_over, paged_slots}
+use Rattle.paged_tables.specs.PagedTables.{Beside, AreKept}
+use Rattle.paged_tables.specs.PagedTouches.{scene_over}
+use Rattle.paged_tables.proofs.NewForks.{fork_lives, forks_more, forks_others}
+use Rattle.paged_tables.proofs.StillScenes.{away_made}
 use Rattle.known_slots.proofs.OtherMaps.{other_away, other_home}
 
 -- a word stands for the same entry whatever the maps

@@ -20,11 +20,11 @@ use Rattle.pager_walk.specs.MapPages.{fork_at, index_of, root_at}
 use Rattle.pager_walk.specs.PagedMaps.{LookStands, map_away, name_at, nobody, seen_for}
 use Rattle.pager_walk.proofs.Looking.{root_taken, stands_at, taken_within}
 use Rattle.pager_walk.proofs.NumberedMaps.{Once, fork_within, index_fork}
-use Rattle.slot_paged.specs.FiledSteps.{PageStays}
-use Rattle.slot_paged.specs.FreedEntries.{EndsFork, MapHas}
-use Rattle.slot_paged.specs.PagedSlots.{filed_over, map_home_over, paged_slots}
-use Rattle.slot_paged.specs.PagedTables.{Beside, AreKept}
-use Rattle.slot_paged.proofs.FilingSteps.{some_name}
+use Rattle.paged_tables.specs.FiledSteps.{PageStays}
+use Rattle.paged_tables.specs.FreedEntries.{EndsFork, MapHas}
+use Rattle.paged_tables.specs.PagedSlots.{filed_over, map_home_over, paged_slots}
+use Rattle.paged_tables.specs.PagedTables.{Beside, AreKept}
+use Rattle.paged_tables.proofs.FilingSteps.{some_name}
 use Rattle.known_slots.proofs.HousedPages.{named_is}
 use Rattle.known_slots.proofs.OtherMaps.{other_away, other_home}
 

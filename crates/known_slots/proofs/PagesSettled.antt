@@ -12,12 +12,12 @@ use Rattle.page_contracts.specs.Pages.{FilesMade, IsPlace, SettlesHome, StandsAt
 use Rattle.page_contracts.specs.Stores.{IsSound, IsUsed, StoreMeaning}
 use Rattle.flat_pages.specs.SlotMeaning.{within}
 use Rattle.flat_pages.proofs.HandedOn.{used_within}
-use Rattle.slot_paged.specs.PagedMeaning.{lives_in}
-use Rattle.slot_paged.specs.PagedSlots.{paged_slots}
-use Rattle.slot_paged.specs.PagedTables.{Beside, AreKept}
-use Rattle.slot_paged.specs.PagedTouches.{touched_over}
-use Rattle.slot_paged.specs.PlacesSettled.{FilesSettled, SettlesPlace}
-use Rattle.slot_paged.proofs.Homed.{homed_named, place_stands}
+use Rattle.paged_tables.specs.PagedMeaning.{lives_in}
+use Rattle.paged_tables.specs.PagedSlots.{paged_slots}
+use Rattle.paged_tables.specs.PagedTables.{Beside, AreKept}
+use Rattle.paged_tables.specs.PagedTouches.{touched_over}
+use Rattle.paged_tables.specs.PlacesSettled.{FilesSettled, SettlesPlace}
+use Rattle.paged_tables.proofs.Homed.{homed_named, place_stands}
 use Rattle.known_slots.proofs.PlacesKept.{settles_home}
 use Rattle.known_slots.proofs.PlacesUsed.{home_at, uses_place}
 

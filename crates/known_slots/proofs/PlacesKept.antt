@@ -24,17 +24,17 @@ use Rattle.pager_walk.specs.MapPages.{index_of, root_at}
 use Rattle.pager_walk.specs.PagedMaps.{LookStands, name_at, name_of, nobody, seen_for}
 use Rattle.pager_walk.proofs.Looking.{stands_at}
 use Rattle.pager_walk.proofs.NumberedMaps.{index_fork}
-use Rattle.slot_paged.specs.declared.page_home.PageHome.TheVariants.{At}
-use Rattle.slot_paged.specs.FiledSteps.{PageStays}
-use Rattle.slot_paged.specs.FreedEntries.{KeepsHomes, NamesHome}
-use Rattle.slot_paged.specs.PageHomes.{homed_over}
-use Rattle.slot_paged.specs.PagedMeaning.{lives_in}
-use Rattle.slot_paged.specs.PagedSlots.{filed_over, map_home_over, paged_slots}
-use Rattle.slot_paged.specs.PagedTables.{Beside, AreKept}
-use Rattle.slot_paged.specs.PlacesSettled.{KeepsPages}
-use Rattle.slot_paged.specs.SetEntries.{ChangesEntry}
-use Rattle.slot_paged.proofs.FilingSteps.{some_name}
-use Rattle.slot_paged.proofs.MapsSame.{homes_same}
+use Rattle.paged_tables.specs.declared.page_home.PageHome.TheVariants.{At}
+use Rattle.paged_tables.specs.FiledSteps.{PageStays}
+use Rattle.paged_tables.specs.FreedEntries.{KeepsHomes, NamesHome}
+use Rattle.paged_tables.specs.PageHomes.{homed_over}
+use Rattle.paged_tables.specs.PagedMeaning.{lives_in}
+use Rattle.paged_tables.specs.PagedSlots.{filed_over, map_home_over, paged_slots}
+use Rattle.paged_tables.specs.PagedTables.{Beside, AreKept}
+use Rattle.paged_tables.specs.PlacesSettled.{KeepsPages}
+use Rattle.paged_tables.specs.SetEntries.{ChangesEntry}
+use Rattle.paged_tables.proofs.FilingSteps.{some_name}
+use Rattle.paged_tables.proofs.MapsSame.{homes_same}
 use Rattle.known_slots.proofs.HousedPages.{named_is}
 use Rattle.known_slots.proofs.PlacesUsed.{stands_at as place_stands}
 

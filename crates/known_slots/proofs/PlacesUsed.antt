@@ -19,17 +19,17 @@ use Rattle.pager_walk.specs.MapPages.{index_of}
 use Rattle.pager_walk.specs.PagedMaps.{name_at, name_of}
 use Rattle.pager_walk.specs.Walks.{walk_at}
 use Rattle.flat_pages.proofs.FiledHomes.{get_filed}
-use Rattle.slot_paged.specs.declared.known_page.KnownPage.{KnownPage}
-use Rattle.slot_paged.specs.declared.page_home.PageHome.TheVariants.{At}
-use Rattle.slot_paged.specs.KnownPages.{found_known, known_along, known_page}
-use Rattle.slot_paged.specs.PageHomes.{homed, homed_along, homed_over}
-use Rattle.slot_paged.specs.PagedMeaning.{lives_in}
-use Rattle.slot_paged.specs.PagedSlots.{map_home_over, paged_slots, space_over}
-use Rattle.slot_paged.specs.PagedTables.{Beside, AreKept}
-use Rattle.slot_paged.specs.PlacesSettled.{UsesPlace as PlaceUsed}
+use Rattle.paged_tables.specs.declared.known_page.KnownPage.{KnownPage}
+use Rattle.paged_tables.specs.declared.page_home.PageHome.TheVariants.{At}
+use Rattle.paged_tables.specs.KnownPages.{found_known, known_along, known_page}
+use Rattle.paged_tables.specs.PageHomes.{homed, homed_along, homed_over}
+use Rattle.paged_tables.specs.PagedMeaning.{lives_in}
+use Rattle.paged_tables.specs.PagedSlots.{map_home_over, paged_slots, space_over}
+use Rattle.paged_tables.specs.PagedTables.{Beside, AreKept}
+use Rattle.paged_tables.specs.PlacesSettled.{UsesPlace as PlaceUsed}
 use Rattle.known_slots.proofs.HousedPages.{named_is, some_named}
-use Rattle.slot_paged.proofs.KnownTouches.{known_is}
-use Rattle.slot_paged.proofs.Placed.{placed}
+use Rattle.paged_tables.proofs.KnownTouches.{known_is}
+use Rattle.paged_tables.proofs.Placed.{placed}
 
 -- the page at the end of a chain is known
 known_at : (w : Walked) (h : Home) → homed_along w ≡ At h → (k : KnownPage) × (known_along w ≡ Some k) × (k.home ≡ h)

@@ -4,9 +4,9 @@ use Rattle.page_contracts.specs.Stores.{IsUsed, StoreMeaning}
 use Rattle.page_contracts.specs.Pages.{HasSpace, OnlyUses, StaysAlike, StaysPut}
 use Rattle.page_contracts.specs.declared.answers.SpaceHandle.{SpaceHandle}
 use Rattle.flat_pages.specs.SlotMeaning.{within}
-use Rattle.slot_paged.specs.PagedSlots.{paged_slots}
+use Rattle.paged_tables.specs.PagedSlots.{paged_slots}
 use Rattle.pager_walk.specs.PagedMaps.{look_at, seen_for}
-use Rattle.slot_paged.specs.PagedTables.{Beside, FitsPages, plain_over}
+use Rattle.paged_tables.specs.PagedTables.{Beside, FitsPages, plain_over}
 
 module _ {Q P S : Type 0} (store : StoreMeaning S) (part : P → S) (beside : P → Beside) (pages : Q → P) where
   pub put_within : (p q : Q) → StaysPut (paged_slots store part beside) (pages p) (pages q) → StaysPut (paged_slots store (λ r. part (pages r)) (λ r. beside (pages r))) p q

@@ -2,8 +2,8 @@
 use Rattle.page_contracts.specs.declared.store.Store.{Ghosts}
 use Rattle.page_contracts.specs.Pages.{PagesMeaning}
 use Rattle.page_contracts.specs.Stores.{StoreMeaning}
-use Rattle.slot_paged.specs.PagedSlots.{paged_slots}
-use Rattle.slot_paged.specs.PagedTables.{beside_of}
+use Rattle.paged_tables.specs.PagedSlots.{paged_slots}
+use Rattle.paged_tables.specs.PagedTables.{beside_of}
 use Rattle.known_slots.specs.declared.known_slots.KnownSlots.{KnownSlots}
 
 -- of pages over a store with this meaning

@@ -1,7 +1,7 @@
 // Pages of forks and of files, with what is known of walks.
 ghost use Rattle.std.specs.Prelude.{◌≡◌};
 ghost use Rattle.known_slots.specs.KnownNow.{AreKnown};
-ghost use Rattle.slot_paged.specs.PagedTables.{beside_of};
+ghost use Rattle.paged_tables.specs.PagedTables.{beside_of};
 
 use crate::known_walks::KnownWalks;
 use machine_names::{ForkName, Kind};
@@ -36,7 +36,7 @@ impl<S: Store> KnownSlots<S> {
     ghost use Rattle.std.specs.Prelude.{◌≡◌, ℕ, ◌-◌, ◌^◌, ◌<◌};
     ghost use Rattle.machine_names.specs.declared.names.TheConstants.{SPACE_PAGES};
     ghost use Rattle.page_contracts.specs.Pages.{HasSpace};
-    ghost use Rattle.slot_paged.specs.KnownPages.{found_known, known_over, lets_change, lets_known};
+    ghost use Rattle.paged_tables.specs.KnownPages.{found_known, known_over, lets_change, lets_known};
     ghost use Rattle.known_slots.specs.Slots.{slots};
     ghost use Rattle.known_slots.specs.WalkTimes.{known_rows};
 

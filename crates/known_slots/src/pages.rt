@@ -1,5 +1,5 @@
 // The pages as the layers above know them.
-ghost use Rattle.slot_paged.specs.PagedTables.{beside_of};
+ghost use Rattle.paged_tables.specs.PagedTables.{beside_of};
 
 use crate::known_slots::KnownSlots;
 use machine_names::{FileNo, ForkName, Kind, PAGE_ADDRESSES, PageName, Place, Slot, Tty};

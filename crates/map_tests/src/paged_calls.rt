@@ -1,8 +1,8 @@
 // Calls of pages over maps that are pages, each made where its condition holds.
 ghost use Rattle.std.specs.Prelude.{◌≡◌};
 ghost use Rattle.paged_store.specs.StoreMeaning.{paged_meaning};
-ghost use Rattle.slot_paged.specs.PagedSlots.{paged_slots};
-ghost use Rattle.slot_paged.specs.PagedTables.{beside_of};
+ghost use Rattle.paged_tables.specs.PagedSlots.{paged_slots};
+ghost use Rattle.paged_tables.specs.PagedTables.{beside_of};
 ghost use Rattle.map_tests.specs.Counted.{AreCounted};
 
 use crate::made::made;

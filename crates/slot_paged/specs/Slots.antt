@@ -3,8 +3,8 @@ use Rattle.page_contracts.specs.declared.store.Store.{Ghosts}
 use Rattle.page_contracts.specs.Pages.{PagesMeaning}
 use Rattle.page_contracts.specs.Stores.{StoreMeaning}
 use Rattle.slot_paged.specs.declared.slot_paged.SlotPaged.{SlotPaged}
-use Rattle.slot_paged.specs.PagedSlots.{paged_slots}
-use Rattle.slot_paged.specs.PagedTables.{beside_of}
+use Rattle.paged_tables.specs.PagedSlots.{paged_slots}
+use Rattle.paged_tables.specs.PagedTables.{beside_of}
 
 -- of pages over a store with this meaning
 abbrev pub slots : {S : Type 0} {members : Ghosts S} → StoreMeaning S → PagesMeaning (SlotPaged S members)

@@ -3,7 +3,7 @@ ghost use Rattle.std.specs.Prelude.{◌≡◌, ℕ};
 ghost use Rattle.plain_pages.specs.Maps.{narrowed as permitted};
 ghost use Rattle.pager_walk.specs.declared.paged_entry.Looked.TheVariants as looked;
 ghost use Rattle.pager_walk.specs.declared.paged_entry.PagedEntry.TheVariants as paged;
-ghost use Rattle.slot_paged.specs.SetEntries.{narrow_paged};
+ghost use Rattle.paged_tables.specs.SetEntries.{narrow_paged};
 
 use crate::slot_paged::SlotPaged;
 use machine_names::{Access, Slot};
@@ -20,11 +20,11 @@ impl<S: Store> SlotPaged<S> {
     ghost use Rattle.pager_walk.specs.declared.paged_entry.PagedEntry.{PagedEntry as APagedEntry};
     ghost use Rattle.pager_walk.specs.PagedMaps.{entry_for, is_near, look_at, name_at};
     ghost use Rattle.flat_pages.specs.FileSteps.{HasHome};
-    ghost use Rattle.slot_paged.specs.FreedEntries.{FreesEntry, KeepsHomes};
-    ghost use Rattle.slot_paged.specs.LeftShares.{left_of};
-    ghost use Rattle.slot_paged.specs.PagedTables.{beside_of};
-    ghost use Rattle.slot_paged.specs.PagedTouches.{has_one_name};
-    ghost use Rattle.slot_paged.specs.SetEntries.{FindsEntry, FreesPage, JoinsEntry, PutsPointer, SetsSlot, bare_entry};
+    ghost use Rattle.paged_tables.specs.FreedEntries.{FreesEntry, KeepsHomes};
+    ghost use Rattle.paged_tables.specs.LeftShares.{left_of};
+    ghost use Rattle.paged_tables.specs.PagedTables.{beside_of};
+    ghost use Rattle.paged_tables.specs.PagedTouches.{has_one_name};
+    ghost use Rattle.paged_tables.specs.SetEntries.{FindsEntry, FreesPage, JoinsEntry, PutsPointer, SetsSlot, bare_entry};
 
     // An entry is set, and the page that it named has a name fewer, where it keeps another.
     fn put_left(&mut self, at: Slot, pointer: Pointer)
@@ -138,10 +138,10 @@ impl<S: Store> SlotPaged<S> {
     ghost use Rattle.page_contracts.specs.Pages.{is_entry};
     ghost use Rattle.plain_pages.specs.NewEntries.{IsNewEntry};
     ghost use Rattle.pager_walk.specs.PagedMaps.{look_at, seen_for};
-    ghost use Rattle.slot_paged.specs.FreedEntries.{KeepsHomes};
-    ghost use Rattle.slot_paged.specs.PagedTables.{beside_of};
-    ghost use Rattle.slot_paged.specs.PagedSlots.{filed_over};
-    ghost use Rattle.slot_paged.specs.SetEntries.{ChangesEntry};
+    ghost use Rattle.paged_tables.specs.FreedEntries.{KeepsHomes};
+    ghost use Rattle.paged_tables.specs.PagedTables.{beside_of};
+    ghost use Rattle.paged_tables.specs.PagedSlots.{filed_over};
+    ghost use Rattle.paged_tables.specs.SetEntries.{ChangesEntry};
 
     // An entry is set anew that a look finds.
     fn change(&mut self, slot: Slot, seen: PagedEntry, new: NewEntry)

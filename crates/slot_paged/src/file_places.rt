@@ -1,18 +1,18 @@
 // Pages of files.
 ghost use Rattle.std.specs.Prelude.{◌≡◌};
 
-use crate::page_home::PageHome;
 use crate::slot_paged::SlotPaged;
 use machine_names::{FILE_PAGES, FileNo, PageName, Place, Slot};
 use page_contracts::Store;
 use page_homes::Home;
+use paged_tables::PageHome;
 
 impl<S: Store> SlotPaged<S> {
     ghost use Rattle.std.specs.Prelude.{◌≡◌};
     ghost use Rattle.machine_names.specs.Bounds.{IsFilePage};
     ghost use Rattle.machine_names.specs.Orders.{file_page};
     ghost use Rattle.slot_paged.specs.Slots.{slots};
-    ghost use Rattle.slot_paged.specs.PagedTables.{beside_of};
+    ghost use Rattle.paged_tables.specs.PagedTables.{beside_of};
 
     /// The page that a file names at one of its pages; it may be in no frame. None exactly where the file has
     /// no such page.
@@ -34,9 +34,9 @@ impl<S: Store> SlotPaged<S> {
     ghost use Rattle.machine_names.specs.Bounds.{IsFilePage};
     ghost use Rattle.machine_names.specs.Orders.{file_page};
     ghost use Rattle.pager_walk.specs.PagedMaps.{name_at};
-    ghost use Rattle.slot_paged.specs.FiledSteps.{EmptiesFiled, SetsFiled, SharesPage};
-    ghost use Rattle.slot_paged.specs.PagedTables.{beside_of};
-    ghost use Rattle.slot_paged.specs.PagedTouches.{names_at};
+    ghost use Rattle.paged_tables.specs.FiledSteps.{EmptiesFiled, SetsFiled, SharesPage};
+    ghost use Rattle.paged_tables.specs.PagedTables.{beside_of};
+    ghost use Rattle.paged_tables.specs.PagedTouches.{names_at};
 
     // A file names a page no more that has no other name: the page is given up.
     fn free_filed(&mut self, file: FileNo, page: u16, home: Home)
@@ -132,8 +132,8 @@ impl<S: Store> SlotPaged<S> {
     ghost use Rattle.machine_names.specs.Orders.{file_page};
     ghost use Rattle.page_contracts.specs.declared.answers.Touch.TheVariants.{Ready};
     ghost use Rattle.page_contracts.specs.Pages.{IsPlace};
-    ghost use Rattle.slot_paged.specs.FiledSteps.{SetsFilePage};
-    ghost use Rattle.slot_paged.specs.PagedTables.{beside_of};
+    ghost use Rattle.paged_tables.specs.FiledSteps.{SetsFilePage};
+    ghost use Rattle.paged_tables.specs.PagedTables.{beside_of};
     ghost use Rattle.slot_paged.specs.Slots.{slots};
 
     /// Sets a page of a file: to the page at the end of a slot's chain, which a touch to read finds Ready, or to

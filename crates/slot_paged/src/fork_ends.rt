@@ -13,10 +13,10 @@ impl<S: Store> SlotPaged<S> {
     ghost use Rattle.page_contracts.specs.Stores.{IsFreed};
     ghost use Rattle.pager_walk.specs.MapPages.{index_of, root_at};
     ghost use Rattle.pager_walk.specs.PagedMaps.{map_away};
-    ghost use Rattle.slot_paged.specs.EndedForks.{EmptiesFork, fork_gone};
-    ghost use Rattle.slot_paged.specs.FreedEntries.{EndsFork, FreesEntries};
-    ghost use Rattle.slot_paged.specs.PagedMeaning.{lives_in};
-    ghost use Rattle.slot_paged.specs.PagedTables.{beside_of};
+    ghost use Rattle.paged_tables.specs.EndedForks.{EmptiesFork, fork_gone};
+    ghost use Rattle.paged_tables.specs.FreedEntries.{EndsFork, FreesEntries};
+    ghost use Rattle.paged_tables.specs.PagedMeaning.{lives_in};
+    ghost use Rattle.paged_tables.specs.PagedTables.{beside_of};
 
     // Each entry of a fork's map is emptied. Pages that lose their last name are given up.
     fn empty_map(&mut self, fork: ForkName)

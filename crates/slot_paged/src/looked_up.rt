@@ -1,10 +1,10 @@
 // Look-ups of pages of spaces.
 ghost use Rattle.std.specs.Prelude.{◌≡◌};
 
-use crate::known_page::KnownPage;
 use crate::slot_paged::SlotPaged;
 use machine_names::{ForkName, Kind, PAGE_ADDRESSES, SPACE_PAGES, Slot};
 use page_contracts::{Found, SpaceHandle, Store};
+use paged_tables::KnownPage;
 use pager_walk::walk;
 use word36::Word;
 
@@ -13,11 +13,11 @@ impl<S: Store> SlotPaged<S> {
     ghost use Rattle.page_contracts.specs.Pages.{HasSpace};
     ghost use Rattle.page_contracts.specs.Stores.{is_taken, place};
     ghost use Rattle.pager_walk.specs.MapPages.{fork_at};
-    ghost use Rattle.slot_paged.specs.declared.known_page.KnownPage.{KnownPage as AKnownPage};
-    ghost use Rattle.slot_paged.specs.KnownPages.{found_known, known_over, lets_change, lets_known};
-    ghost use Rattle.slot_paged.specs.PagedMeaning.{lives_in};
+    ghost use Rattle.paged_tables.specs.declared.known_page.KnownPage.{KnownPage as AKnownPage};
+    ghost use Rattle.paged_tables.specs.KnownPages.{found_known, known_over, lets_change, lets_known};
+    ghost use Rattle.paged_tables.specs.PagedMeaning.{lives_in};
     ghost use Rattle.slot_paged.specs.Slots.{slots};
-    ghost use Rattle.slot_paged.specs.PagedTables.{beside_of};
+    ghost use Rattle.paged_tables.specs.PagedTables.{beside_of};
 
     /// The handle of a fork's space.
     pub fn space(&self, fork: ForkName) -> SpaceHandle
@@ -103,9 +103,9 @@ impl<S: Store> SlotPaged<S> {
     ghost use Rattle.page_contracts.specs.Pages.{HasSpace, MayLose, OnlyUses, StaysPut};
     ghost use Rattle.page_contracts.specs.Stores.{IsUsed, place, with_word_in, word_in};
     ghost use Rattle.plain_pages.specs.References.{in_map, slot_at, stored, word_at};
-    ghost use Rattle.slot_paged.specs.KnownPages.{known_over};
+    ghost use Rattle.paged_tables.specs.KnownPages.{known_over};
     ghost use Rattle.slot_paged.specs.Slots.{slots};
-    ghost use Rattle.slot_paged.specs.PagedTables.{beside_of};
+    ghost use Rattle.paged_tables.specs.PagedTables.{beside_of};
 
     /// The word at an address of a space, in a page that was found. This is a look, and no use of the page.
     #[inline(always)]

@@ -4,13 +4,13 @@ ghost use Rattle.page_homes.specs.declared.homes.Home.{Home as AHome};
 ghost use Rattle.page_contracts.specs.DrumWords.{DrumWords};
 ghost use Rattle.page_contracts.specs.Stores.{IsMade, free_homes, is_here, is_taken, place, room_of};
 ghost use Rattle.pager_walk.specs.PagedMaps.{AreRooted, FitsMaps, tables_of, with_name};
-ghost use Rattle.slot_paged.specs.MadePages.{page_like};
+ghost use Rattle.paged_tables.specs.MadePages.{page_like};
 
-use crate::page_home::PageHome;
 use crate::slot_paged::{SlotPaged, copy_for};
 use machine_names::{Access, FileNo, Kind, PageName, Place, Slot, Tty};
 use page_contracts::{Room, Store, Touch};
 use page_homes::Home;
+use paged_tables::PageHome;
 use pager_walk::{FULL_ACCESS, MapTables, Walked, Way, copy_page, entry, make_page, set, walk};
 use share_table::Pointer;
 
@@ -45,10 +45,10 @@ impl<S: Store> SlotPaged<S> {
     ghost use Rattle.page_contracts.specs.Stores.{is_here, place};
     ghost use Rattle.flat_pages.specs.Serials.{serial_of};
     ghost use Rattle.pager_walk.specs.PagedMaps.{is_near, look_at};
-    ghost use Rattle.slot_paged.specs.LeftShares.{left_of};
-    ghost use Rattle.slot_paged.specs.MadePages.{FilesPage, MakesPage, RenamesPage, page_like};
-    ghost use Rattle.slot_paged.specs.PagedTables.{beside_of};
-    ghost use Rattle.slot_paged.specs.PagedTouches.{has_one_name, roomy};
+    ghost use Rattle.paged_tables.specs.LeftShares.{left_of};
+    ghost use Rattle.paged_tables.specs.MadePages.{FilesPage, MakesPage, RenamesPage, page_like};
+    ghost use Rattle.paged_tables.specs.PagedTables.{beside_of};
+    ghost use Rattle.paged_tables.specs.PagedTouches.{has_one_name, roomy};
 
     // A page in a home of its own, which an entry names in the place of what it named: a zero page, or a copy of another.
     fn make_named(&mut self, at: Slot, from: Option<Home>, access: Access, owner: Tty)
@@ -115,10 +115,10 @@ impl<S: Store> SlotPaged<S> {
     ghost use Rattle.pager_walk.specs.declared.chain_walk.Walked.TheVariants.{Along};
     ghost use Rattle.pager_walk.specs.MapPages.{index_of};
     ghost use Rattle.pager_walk.specs.Walks.{WayStands, walk_at};
-    ghost use Rattle.slot_paged.specs.PagedMeaning.{lives_in};
-    ghost use Rattle.slot_paged.specs.PagedTables.{beside_of};
-    ghost use Rattle.slot_paged.specs.PagedTouches.{touched_over, walk_touched};
-    ghost use Rattle.slot_paged.specs.PlacesSettled.{SettlesPlace};
+    ghost use Rattle.paged_tables.specs.PagedMeaning.{lives_in};
+    ghost use Rattle.paged_tables.specs.PagedTables.{beside_of};
+    ghost use Rattle.paged_tables.specs.PagedTouches.{touched_over, walk_touched};
+    ghost use Rattle.paged_tables.specs.PlacesSettled.{SettlesPlace};
 
     // The page of a file is settled.
     fn settle_filed(&mut self, file: FileNo, page: u16, kind: Kind, owner: Tty)

@@ -1,14 +1,13 @@
 // Maps that are pages of a store.
 ghost use Rattle.std.specs.Prelude.{◌≡◌};
-ghost use Rattle.slot_paged.specs.PagedTables.{AreKept, beside_of};
-ghost use Rattle.slot_paged.specs.PagedTouches.{copy_for};
+ghost use Rattle.paged_tables.specs.PagedTables.{AreKept, beside_of};
+ghost use Rattle.paged_tables.specs.PagedTouches.{copy_for};
 
-use crate::page_home::PageHome;
-use crate::paged_tables::PagedTables;
 use machine_names::{ForkName, Kind, PageName, Place, Slot, Tty};
 use outside::{Drum, Memory};
 use page_contracts::{Completed, MOST_HOLDERS, Need, Peeked, Room, Seen, Store, Touch};
 use page_homes::{FrameId, Home, MOST_HOMES};
+use paged_tables::{PageHome, PagedTables};
 use pager_walk::{
     FULL_ACCESS, Looked, PagedEntry, Walked, Way, begin, begin_following, entry, make_page, seen,
     set, walk,
@@ -47,8 +46,8 @@ impl<S: Store + Drop> SlotPaged<S> {
     ghost use Rattle.page_contracts.specs.Stores.{FitsHomes, free};
     ghost use Rattle.flat_pages.specs.Serials.{serial_of};
     ghost use Rattle.plain_pages.specs.PlainPages.{opening_pages};
-    ghost use Rattle.slot_paged.specs.PagedTables.{FitsPages, beside_of, plain_over};
-    ghost use Rattle.slot_paged.specs.PagedMeaning.{forks_in, lives_in};
+    ghost use Rattle.paged_tables.specs.PagedTables.{FitsPages, beside_of, plain_over};
+    ghost use Rattle.paged_tables.specs.PagedMeaning.{forks_in, lives_in};
 
     /// No fork and no page, over a store with so many homes, at most 16,384, all of them free: so many pages
     /// and forks may live. Err: no memory.
@@ -82,10 +81,10 @@ impl<S: Store> SlotPaged<S> {
     ghost use Rattle.outside.specs.declared.TheConstants.{PAGE_WORDS};
     ghost use Rattle.pager_walk.specs.declared.chain_walk.Walked.TheVariants.{Along};
     ghost use Rattle.pager_walk.specs.Walks.{WayStands};
-    ghost use Rattle.slot_paged.specs.PagedTables.{FitsPages, beside_of, plain_over};
-    ghost use Rattle.slot_paged.specs.PagedTouches.{alone_at, copy_touched, file_touched, made_touched, roomy, scene_over, touched_over, walk_touched};
-    ghost use Rattle.slot_paged.specs.PageHomes.{counted_over, homed_over, peeked_at, peeked_over};
-    ghost use Rattle.slot_paged.specs.PagedMeaning.{lives_in};
+    ghost use Rattle.paged_tables.specs.PagedTables.{FitsPages, beside_of, plain_over};
+    ghost use Rattle.paged_tables.specs.PagedTouches.{alone_at, copy_touched, file_touched, made_touched, roomy, scene_over, touched_over, walk_touched};
+    ghost use Rattle.paged_tables.specs.PageHomes.{counted_over, homed_over, peeked_at, peeked_over};
+    ghost use Rattle.paged_tables.specs.PagedMeaning.{lives_in};
 
     // What wants a frame answers so, where none is free.
     fn framed(&self, touch: Touch) -> Touch
@@ -357,10 +356,10 @@ impl<S: Store> SlotPaged<S> {
     ghost use Rattle.page_contracts.specs.Pages.{IsPlace, room_for, spot_of};
     ghost use Rattle.page_contracts.specs.Stores.{CanFetch, CanKeep, Completes, Evicts, IsFetched, IsUsed, Keeps, LetsGo, Tells, awaited, meeting, most_held, place, with_word_in};
     ghost use Rattle.plain_pages.specs.References.{stored};
-    ghost use Rattle.slot_paged.specs.PagedTables.{FitsPages, plain_over};
-    ghost use Rattle.slot_paged.specs.PagedTouches.{touched_over};
-    ghost use Rattle.slot_paged.specs.PageHomes.{homed_over};
-    ghost use Rattle.slot_paged.specs.PagedMeaning.{lives_in};
+    ghost use Rattle.paged_tables.specs.PagedTables.{FitsPages, plain_over};
+    ghost use Rattle.paged_tables.specs.PagedTouches.{touched_over};
+    ghost use Rattle.paged_tables.specs.PageHomes.{homed_over};
+    ghost use Rattle.paged_tables.specs.PagedMeaning.{lives_in};
 
     /// Puts a word at an offset of the page of a place, which a touch to write finds Ready, and which is used.
     pub fn put(&mut self, at: Place, offset: u16, word: Word)
@@ -505,9 +504,9 @@ impl<S: Store> SlotPaged<S> {
     ghost use Rattle.plain_pages.specs.NewMaps.{with_map};
     ghost use Rattle.pager_walk.specs.MapPages.{first_map, fork_at, index_of};
     ghost use Rattle.pager_walk.specs.NewPages.{following_words};
-    ghost use Rattle.slot_paged.specs.AddedForks.{AddsFork};
-    ghost use Rattle.slot_paged.specs.PagedTables.{FitsPages, beside_of, plain_over};
-    ghost use Rattle.slot_paged.specs.PagedMeaning.{forks_in, lives_in, with_fork};
+    ghost use Rattle.paged_tables.specs.AddedForks.{AddsFork};
+    ghost use Rattle.paged_tables.specs.PagedTables.{FitsPages, beside_of, plain_over};
+    ghost use Rattle.paged_tables.specs.PagedMeaning.{forks_in, lives_in, with_fork};
 
     // A number that no fork's map has, among those of a terminal.
     fn number_for(&self, tty: Tty) -> u32

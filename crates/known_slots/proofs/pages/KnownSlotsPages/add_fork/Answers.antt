@@ -1,6 +1,6 @@
 use Rattle.std.proofs.Common.{subst}
 use Rattle.page_contracts.specs.Pages.{MapFollowsFork}
-use Rattle.slot_paged.specs.PagedTables.{beside_of}
+use Rattle.paged_tables.specs.PagedTables.{beside_of}
 use Rattle.known_slots.proofs.MapsAdded.{fork_added}
 use Rattle.known_slots.proofs.pages.KnownSlotsPages.add_fork.Goals as goal
 

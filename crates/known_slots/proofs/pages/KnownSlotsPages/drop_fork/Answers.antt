@@ -1,4 +1,4 @@
-use Rattle.slot_paged.specs.PagedTables.{beside_of}
+use Rattle.paged_tables.specs.PagedTables.{beside_of}
 use Rattle.known_slots.proofs.ForksDropped.{fork_dropped}
 use Rattle.known_slots.proofs.pages.KnownSlotsPages.drop_fork.Goals as goal
 

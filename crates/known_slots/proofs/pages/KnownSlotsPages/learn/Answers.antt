@@ -1,5 +1,5 @@
 use Rattle.known_slots.proofs.WithinPages.{alike_within}
-use Rattle.slot_paged.specs.PagedTables.{beside_of}
+use Rattle.paged_tables.specs.PagedTables.{beside_of}
 use Rattle.known_slots.proofs.pages.KnownSlotsPages.learn.Goals as goal
 
 pub returns : goal.returns

@@ -1,5 +1,5 @@
 use Rattle.std.proofs.Common.{sym, ◌∙◌}
-use Rattle.slot_paged.specs.PagedTables.{beside_of}
+use Rattle.paged_tables.specs.PagedTables.{beside_of}
 use Rattle.known_slots.proofs.AwayHomes.{peek_away}
 use Rattle.known_slots.proofs.pages.KnownSlotsPages.peek.Goals as goal
 

@@ -1,9 +1,9 @@
 use Rattle.std.proofs.Common.{◌≡◌, inl, inr, ◌∙◌, None, Some, sym, subst}
 use Rattle.slot_paged.specs.declared.slot_paged.SlotPaged.{SlotPaged}
-use Rattle.slot_paged.specs.KnownPages.{known_over}
-use Rattle.slot_paged.specs.PagedTables.{beside_of}
-use Rattle.slot_paged.specs.PagedTouches.{touched_over}
-use Rattle.slot_paged.specs.PlacesSettled.{SettlesPlace}
+use Rattle.paged_tables.specs.KnownPages.{known_over}
+use Rattle.paged_tables.specs.PagedTables.{beside_of}
+use Rattle.paged_tables.specs.PagedTouches.{touched_over}
+use Rattle.paged_tables.specs.PlacesSettled.{SettlesPlace}
 use Rattle.known_slots.proofs.PagesSettled.{page_settled}
 use Rattle.known_slots.proofs.pages.KnownSlotsPages.settle.Goals as goal
 

@@ -1,8 +1,8 @@
 use Rattle.std.proofs.Common.{◌≡◌, ◌+◌, ap, subst}
 use Rattle.machine_names.specs.declared.names.ForkName.{ForkName}
 use Rattle.machine_names.specs.declared.names.Tty.{Tty}
-use Rattle.slot_paged.specs.PagedMeaning.{forks_in}
-use Rattle.slot_paged.specs.PagedTables.{beside_of}
+use Rattle.paged_tables.specs.PagedMeaning.{forks_in}
+use Rattle.paged_tables.specs.PagedTables.{beside_of}
 use Rattle.map_tests.proofs.Counting.{counted_more}
 use Rattle.map_tests.proofs.paged_calls.PagedCalls.add_following.Goals as goal
 

@@ -1,8 +1,8 @@
 use Rattle.std.proofs.Common.{◌<◌, arith, length, sym, subst}
-use Rattle.slot_paged.specs.AddedForks.{AddsFork}
-use Rattle.slot_paged.specs.PagedTables.{beside_of}
-use Rattle.slot_paged.proofs.ForksAdded.{following_bare, zero_bare}
-use Rattle.slot_paged.proofs.NewForks.{absent_is}
+use Rattle.paged_tables.specs.AddedForks.{AddsFork}
+use Rattle.paged_tables.specs.PagedTables.{beside_of}
+use Rattle.paged_tables.proofs.ForksAdded.{following_bare, zero_bare}
+use Rattle.paged_tables.proofs.NewForks.{absent_is}
 use Rattle.slot_paged.proofs.slot_paged.SlotPaged.add_fork.Goals as goal
 
 pub returns-in-Empty : goal.returns-in-Empty

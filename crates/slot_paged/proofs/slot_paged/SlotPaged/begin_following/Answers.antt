@@ -7,9 +7,9 @@ use Rattle.pager_walk.specs.NewPages.{following_words}
 use Rattle.pager_walk.specs.PagedMaps.{Tables, FitsMaps, with_root}
 use Rattle.flat_pages.specs.HeldMaps.{followers}
 use Rattle.flat_pages.proofs.Beginning.{followers_follow, followers_new}
-use Rattle.slot_paged.specs.PagedTables.{Beside, FitsPages, beside_of, plain_over}
-use Rattle.slot_paged.specs.PagedMeaning.{with_fork}
-use Rattle.slot_paged.proofs.NewForks.{begun_told, following_entries}
+use Rattle.paged_tables.specs.PagedTables.{Beside, FitsPages, beside_of, plain_over}
+use Rattle.paged_tables.specs.PagedMeaning.{with_fork}
+use Rattle.paged_tables.proofs.NewForks.{begun_told, following_entries}
 use Rattle.slot_paged.proofs.slot_paged.SlotPaged.begin_following.Goals as goal
 
 pub returns-clause-told : goal.returns-clause-told

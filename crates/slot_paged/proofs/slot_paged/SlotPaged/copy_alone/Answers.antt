@@ -8,12 +8,12 @@ use Rattle.pager_walk.specs.declared.paged_entry.PagedEntry.TheVariants.{Page}
 use Rattle.pager_walk.specs.MapPages.{index_of, root_at}
 use Rattle.pager_walk.specs.PagedMaps.{Tables, AreRooted, FitsMaps, entry_for, tables_of, with_name}
 use Rattle.pager_walk.proofs.Changing.{taken_still}
-use Rattle.slot_paged.specs.declared.paged_tables.PagedTables.{PagedTables}
-use Rattle.slot_paged.specs.MadePages.{page_renamed, pointer_to}
-use Rattle.slot_paged.specs.PagedTables.{Beside, AreKept, beside_of}
-use Rattle.slot_paged.proofs.Moved.{kept_moved}
-use Rattle.slot_paged.proofs.PagesMade.{near_number, taken_word}
-use Rattle.slot_paged.proofs.RenamedPages.{below, fits_renamed, one_named, pointer_fits, pointer_names, renamed_kept, rooted_renamed, some_still, tables'}
+use Rattle.paged_tables.specs.declared.paged_tables.PagedTables.{PagedTables}
+use Rattle.paged_tables.specs.MadePages.{page_renamed, pointer_to}
+use Rattle.paged_tables.specs.PagedTables.{Beside, AreKept, beside_of}
+use Rattle.paged_tables.proofs.Moved.{kept_moved}
+use Rattle.paged_tables.proofs.PagesMade.{near_number, taken_word}
+use Rattle.paged_tables.proofs.RenamedPages.{below, fits_renamed, one_named, pointer_fits, pointer_names, renamed_kept, rooted_renamed, some_still, tables'}
 use Rattle.slot_paged.proofs.slot_paged.SlotPaged.copy_alone.Goals as goal
 
 pub rename-requires-clause-home : goal.rename-requires-clause-home

@@ -1,7 +1,7 @@
 use Rattle.std.proofs.Common.{◌≡◌, ℕ, subst, arith}
-use Rattle.slot_paged.specs.FiledSteps.{EmptiesFiled}
-use Rattle.slot_paged.specs.PagedTables.{beside_of}
-use Rattle.slot_paged.proofs.FilingEnds.{empties_more, empties_none}
+use Rattle.paged_tables.specs.FiledSteps.{EmptiesFiled}
+use Rattle.paged_tables.specs.PagedTables.{beside_of}
+use Rattle.paged_tables.proofs.FilingEnds.{empties_more, empties_none}
 use Rattle.slot_paged.proofs.slot_paged.SlotPaged.drop_file.Goals as goal
 
 pub loop-page-init : goal.loop-page-init

@@ -1,5 +1,5 @@
-use Rattle.slot_paged.specs.FiledSteps.{EmptiesFiled}
-use Rattle.slot_paged.specs.PagedTables.{beside_of}
+use Rattle.paged_tables.specs.FiledSteps.{EmptiesFiled}
+use Rattle.paged_tables.specs.PagedTables.{beside_of}
 use Rattle.slot_paged.proofs.slot_paged.SlotPaged.drop_file.Given as goal
 
 abbrev pub invariant-loop-page : goal.invariant-loop-page

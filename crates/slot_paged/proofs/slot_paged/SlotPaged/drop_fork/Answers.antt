@@ -1,8 +1,8 @@
 use Rattle.std.proofs.Common.{◌≡◌, ℕ, Some, sym, ◌∙◌, ap, subst}
 use Rattle.page_contracts.specs.Stores.{IsFreed}
 use Rattle.pager_walk.specs.MapPages.{root_at}
-use Rattle.slot_paged.specs.EndedForks.{fork_gone}
-use Rattle.slot_paged.specs.PagedTables.{beside_of}
+use Rattle.paged_tables.specs.EndedForks.{fork_gone}
+use Rattle.paged_tables.specs.PagedTables.{beside_of}
 use Rattle.slot_paged.proofs.slot_paged.SlotPaged.drop_fork.Goals as goal
 
 pub returns : goal.returns

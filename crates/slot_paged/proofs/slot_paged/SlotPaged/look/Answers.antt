@@ -2,9 +2,9 @@ use Rattle.std.proofs.Common.{◌≡◌, ◌∙◌, ◌<◌, ◌/◌, ◌%◌, S
 use Rattle.std.specs.Prelude.{slice_index}
 use Rattle.machine_names.specs.declared.names.Place.TheVariants.{Fork}
 use Rattle.page_contracts.specs.Stores.{word_in}
-use Rattle.slot_paged.specs.PagedTables.{beside_of}
-use Rattle.slot_paged.proofs.Homed.{place_stands, place_tells, word_told}
-use Rattle.slot_paged.proofs.Placed.{placed}
+use Rattle.paged_tables.specs.PagedTables.{beside_of}
+use Rattle.paged_tables.proofs.Homed.{place_stands, place_tells, word_told}
+use Rattle.paged_tables.proofs.Placed.{placed}
 use Rattle.slot_paged.proofs.slot_paged.SlotPaged.look.Goals as goal
 
 pub look-requires-clause-found : goal.look-requires-clause-found

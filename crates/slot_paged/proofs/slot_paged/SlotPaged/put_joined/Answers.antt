@@ -6,11 +6,11 @@ use Rattle.share_table.specs.Pointers.{IsPointer, pointer_word}
 use Rattle.pager_walk.specs.MapPages.{index_of, root_at}
 use Rattle.pager_walk.specs.PagedMaps.{entry_for, name_at}
 use Rattle.pager_walk.proofs.Changing.{taken_still}
-use Rattle.slot_paged.specs.PagedTables.{Beside, AreKept, beside_of}
-use Rattle.slot_paged.proofs.Joining.{join_beside, join_kept, join_room, join_there, join_within}
-use Rattle.slot_paged.proofs.Moved.{kept_moved}
-use Rattle.slot_paged.proofs.PagesMade.{near_number, taken_word}
-use Rattle.slot_paged.proofs.RenamedPages.{pointer_fits, pointer_names}
+use Rattle.paged_tables.specs.PagedTables.{Beside, AreKept, beside_of}
+use Rattle.paged_tables.proofs.Joining.{join_beside, join_kept, join_room, join_there, join_within}
+use Rattle.paged_tables.proofs.Moved.{kept_moved}
+use Rattle.paged_tables.proofs.PagesMade.{near_number, taken_word}
+use Rattle.paged_tables.proofs.RenamedPages.{pointer_fits, pointer_names}
 use Rattle.slot_paged.proofs.slot_paged.SlotPaged.put_joined.Goals as goal
 
 pub join-requires-clause-home : goal.join-requires-clause-home

@@ -6,9 +6,9 @@ use Rattle.machine_names.specs.Orders.{file_page}
 use Rattle.page_contracts.specs.Pages.{IsPlace}
 use Rattle.plain_pages.specs.FilePages.{filed_by, with_file}
 use Rattle.flat_pages.proofs.FilePlaces.{given_slot}
-use Rattle.slot_paged.specs.PagedMeaning.{lives_in}
-use Rattle.slot_paged.specs.PagedTables.{beside_of, plain_over}
-use Rattle.slot_paged.proofs.Homed.{homed_named, place_stands, place_tells, reached_there}
+use Rattle.paged_tables.specs.PagedMeaning.{lives_in}
+use Rattle.paged_tables.specs.PagedTables.{beside_of, plain_over}
+use Rattle.paged_tables.proofs.Homed.{homed_named, place_stands, place_tells, reached_there}
 use Rattle.slot_paged.proofs.slot_paged.SlotPaged.set_file.Goals as goal
 
 pub returns-in_default : goal.returns-in_default

@@ -4,14 +4,14 @@ use Rattle.page_homes.specs.declared.homes.Home.{Home}
 use Rattle.page_contracts.specs.Stores.{HomePlace, is_here, place}
 use Rattle.plain_pages.specs.Maps.{full_access}
 use Rattle.pager_walk.specs.PagedMaps.{look_at}
-use Rattle.slot_paged.specs.LeftShares.{left_of}
-use Rattle.slot_paged.specs.MadePages.{MakesPage}
-use Rattle.slot_paged.specs.PageHomes.{homed, homed_along}
-use Rattle.slot_paged.specs.PagedTables.{beside_of}
-use Rattle.slot_paged.specs.PagedTouches.{alone_at, copy_for, walk_touched}
-use Rattle.slot_paged.proofs.MapsSet.{ready_map}
-use Rattle.slot_paged.proofs.PlacesDone.{alone_done, copy_done, ready_told, used_done, zero_done}
-use Rattle.slot_paged.proofs.SettledTouches.{alone_one, copied_here, is_ready, only_write, used_here}
+use Rattle.paged_tables.specs.LeftShares.{left_of}
+use Rattle.paged_tables.specs.MadePages.{MakesPage}
+use Rattle.paged_tables.specs.PageHomes.{homed, homed_along}
+use Rattle.paged_tables.specs.PagedTables.{beside_of}
+use Rattle.paged_tables.specs.PagedTouches.{alone_at, copy_for, walk_touched}
+use Rattle.paged_tables.proofs.MapsSet.{ready_map}
+use Rattle.paged_tables.proofs.PlacesDone.{alone_done, copy_done, ready_told, used_done, zero_done}
+use Rattle.paged_tables.proofs.SettledTouches.{alone_one, copied_here, is_ready, only_write, used_here}
 use Rattle.slot_paged.proofs.slot_paged.SlotPaged.settle_along.Goals as goal
 
 pub returns-in_default : goal.returns-in_default

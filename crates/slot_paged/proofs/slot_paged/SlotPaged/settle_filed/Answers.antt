@@ -3,13 +3,13 @@ use Rattle.std.specs.FinMap as fin
 use Rattle.machine_names.specs.declared.names.Place.TheVariants.{File}
 use Rattle.machine_names.specs.Orders.{file_page}
 use Rattle.page_contracts.specs.Stores.{away_at, is_here}
-use Rattle.slot_paged.specs.PageHomes.{homed}
-use Rattle.slot_paged.specs.PagedTables.{beside_of, plain_over}
-use Rattle.slot_paged.specs.PagedTouches.{file_touched, scene_over}
-use Rattle.slot_paged.proofs.FileTold.{used_told}
-use Rattle.slot_paged.proofs.MapsSet.{file_map}
-use Rattle.slot_paged.proofs.PlacesDone.{filed_done, used_done}
-use Rattle.slot_paged.proofs.SettledTouches.{filed_here, filed_ready, filed_zero}
+use Rattle.paged_tables.specs.PageHomes.{homed}
+use Rattle.paged_tables.specs.PagedTables.{beside_of, plain_over}
+use Rattle.paged_tables.specs.PagedTouches.{file_touched, scene_over}
+use Rattle.paged_tables.proofs.FileTold.{used_told}
+use Rattle.paged_tables.proofs.MapsSet.{file_map}
+use Rattle.paged_tables.proofs.PlacesDone.{filed_done, used_done}
+use Rattle.paged_tables.proofs.SettledTouches.{filed_here, filed_ready, filed_zero}
 use Rattle.slot_paged.proofs.slot_paged.SlotPaged.settle_filed.Goals as goal
 
 pub used-requires : goal.used-requires

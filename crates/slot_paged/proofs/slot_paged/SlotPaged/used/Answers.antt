@@ -2,10 +2,10 @@ use Rattle.std.proofs.Common.{◌<◌, ◌/◌, List, refl, sym, ap, subst, arit
 use Rattle.page_contracts.proofs.Losing.{loses_used}
 use Rattle.page_contracts.specs.Stores.{HomePlace}
 use Rattle.flat_pages.proofs.HandedOn.{used_within}
-use Rattle.slot_paged.specs.KnownPages.{known_over}
-use Rattle.slot_paged.specs.PagedTables.{AreKept, beside_of}
-use Rattle.slot_paged.proofs.AskedOfStore.{only_uses}
-use Rattle.slot_paged.proofs.Placed.{placed}
+use Rattle.paged_tables.specs.KnownPages.{known_over}
+use Rattle.paged_tables.specs.PagedTables.{AreKept, beside_of}
+use Rattle.paged_tables.proofs.AskedOfStore.{only_uses}
+use Rattle.paged_tables.proofs.Placed.{placed}
 use Rattle.slot_paged.proofs.slot_paged.SlotPaged.used.Goals as goal
 
 pub use_found-requires : goal.use_found-requires
