@@ -26,7 +26,7 @@ use Rattle.paged_tables.specs.PagedTables.{Beside, AreKept, FitsPages, in_memory
 use Rattle.paged_tables.proofs.FilingSteps.{some_name}
 use Rattle.paged_tables.proofs.Homed.{sized}
 use Rattle.paged_tables.proofs.MapsSame.{forks_same, lives_same}
-use Rattle.known_slots.proofs.HousedPages.{named_is}
+use Rattle.slot_paged.proofs.HousedPages.{named_is}
 use Rattle.known_slots.proofs.PlacesKept.{maps_same, pages_stay, sets_file}
 
 module _ {S : Type 0} (store : StoreMeaning S) (file : ℕ) where

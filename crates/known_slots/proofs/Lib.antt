@@ -1,4 +1,3 @@
-pub mod HousedPages
 pub mod ForksLeft
 pub mod WithinPages
 pub mod PlacesUsed

@@ -25,7 +25,7 @@ use Rattle.paged_tables.specs.FreedEntries.{EndsFork, MapHas}
 use Rattle.paged_tables.specs.PagedSlots.{filed_over, map_home_over, paged_slots}
 use Rattle.paged_tables.specs.PagedTables.{Beside, AreKept}
 use Rattle.paged_tables.proofs.FilingSteps.{some_name}
-use Rattle.known_slots.proofs.HousedPages.{named_is}
+use Rattle.slot_paged.proofs.HousedPages.{named_is}
 use Rattle.known_slots.proofs.OtherMaps.{other_away, other_home}
 
 one_frame : (c : Bool) → ◌≤◌ (cond c 1 0) 1

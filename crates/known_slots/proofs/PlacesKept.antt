@@ -35,7 +35,7 @@ use Rattle.paged_tables.specs.PlacesSettled.{KeepsPages}
 use Rattle.paged_tables.specs.SetEntries.{ChangesEntry}
 use Rattle.paged_tables.proofs.FilingSteps.{some_name}
 use Rattle.paged_tables.proofs.MapsSame.{homes_same}
-use Rattle.known_slots.proofs.HousedPages.{named_is}
+use Rattle.slot_paged.proofs.HousedPages.{named_is}
 use Rattle.known_slots.proofs.PlacesUsed.{stands_at as place_stands}
 
 module _ {P S : Type 0} (store : StoreMeaning S) (part : P → S) (beside : P → Beside) (old new : P) (kept : AreKept (beside old) (store.homes (part old))) (kept' : AreKept (beside new) (store.homes (part new))) (maps : (beside new).tables.maps ≡ (beside old).tables.maps) where

@@ -27,7 +27,7 @@ use Rattle.paged_tables.specs.PagedMeaning.{lives_in}
 use Rattle.paged_tables.specs.PagedSlots.{map_home_over, paged_slots, space_over}
 use Rattle.paged_tables.specs.PagedTables.{Beside, AreKept}
 use Rattle.paged_tables.specs.PlacesSettled.{UsesPlace as PlaceUsed}
-use Rattle.known_slots.proofs.HousedPages.{named_is, some_named}
+use Rattle.slot_paged.proofs.HousedPages.{named_is, some_named}
 use Rattle.paged_tables.proofs.KnownTouches.{known_is}
 use Rattle.paged_tables.proofs.Placed.{placed}
 

@@ -13,7 +13,7 @@ use word36::Word;
 
 impl<S: Store> Pages for KnownSlots<S> {
     ghost use Rattle.known_slots.specs.Slots.{slots};
-    ghost use Rattle.known_slots.proofs.HousedPages.{paged_agrees, paged_alone, paged_housed, paged_there, paged_whole};
+    ghost use Rattle.slot_paged.proofs.HousedPages.{paged_agrees, paged_alone, paged_housed, paged_there, paged_whole};
 
     ghost means = { slots S.means };
 

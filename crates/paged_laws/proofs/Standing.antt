@@ -4,7 +4,7 @@ use Rattle.page_contracts.specs.Pages.{AreHoused, Housed, home_for}
 use Rattle.pager_walk.proofs.Looking.{taken_within}
 use Rattle.paged_tables.specs.PagedSlots.{paged_slots}
 use Rattle.paged_tables.specs.PagedTables.{Beside}
-use Rattle.known_slots.proofs.HousedPages.{paged_housed}
+use Rattle.slot_paged.proofs.HousedPages.{paged_housed}
 use Rattle.paged_tables.specs.PagedTables.{AreKept}
 use Rattle.paged_store.specs.declared.store.PagedStore.{PagedStore}
 use Rattle.paged_store.specs.OnePlace.{HasOnePlace}
