@@ -3,7 +3,10 @@
 cost.py PID: watches the commands of the toolchain that the process PID starts, itself or through others, until it is
 terminated, and prints the table then. A command's time is that of the last look at it, a fifth of a second before its
 end at most. What else the process had run (the gate's own program, linking, the programs and tests) is the last row.
+Beside the minutes stands the memory that the toolchain reckons for a check of the crate.
 """
+import functools
+import glob
 import os
 import signal
 import sys
@@ -12,6 +15,8 @@ import threading
 TICKS = os.sysconf("SC_CLK_TCK")
 PAUSE = 0.2
 KINDS = ("proof", "tests", "edits")
+TOP = os.path.join(os.path.dirname(os.path.abspath(__file__)), "..")
+MOST_GB = 5
 
 
 def read(path):
@@ -81,19 +86,50 @@ class Watch:
         return (int(fields[13]) + int(fields[14])) / TICKS if fields else 0.0
 
 
+def stands_on():
+    """The libraries that crates.txt names for each crate."""
+    lines = read(f"{TOP}/crates.txt").decode().split("\n")
+    parts = (line.partition("#")[0].partition(":") for line in lines)
+    return {head.split()[0]: others.split() for head, colon, others in parts if colon}
+
+
+def lines_of(files):
+    return sum(read(path).count(b"\n") for path in glob.glob(f"{TOP}/crates/{files}", recursive=True))
+
+
+def memory():
+    """The GB that a check of each crate is likely to take: 1, with 1 for each 1,000 lines of its code, 0.2 for as many of its definitions
+    and proofs, and 0.08 for as many of the code below it. What the toolchain's own libraries take comes to it."""
+    libraries = stands_on()
+    code = {crate: lines_of(f"{crate}/src/**/*.rt") for crate in libraries}
+
+    @functools.cache
+    def below(crate):
+        own = [it for it in libraries[crate] if it in libraries]
+        return set(own).union(*map(below, own))
+
+    def thousands(crate):
+        return code[crate] + 0.2 * lines_of(f"{crate}/[sp]*/**/*.antt") + 0.08 * sum(code[it] for it in below(crate))
+
+    return {crate: 1 + thousands(crate) / 1000 for crate in libraries}
+
+
 def line(name, seconds):
     return f"{name:<20}" + "".join(f"{each / 60:8.1f}" for each in (*seconds, sum(seconds)))
 
 
 def table(watch):
     rows = watch.rows()
+    reckoned = memory()
     sums = [sum(row[kind] for row in rows.values()) for kind in KINDS]
     rest = max(watch.whole() - sum(sums), 0.0) / 60
-    yield "processor minutes   " + "".join(f"{kind:>8}" for kind in (*KINDS, "all"))
+    yield "processor minutes   " + "".join(f"{kind:>8}" for kind in (*KINDS, "all", "GB"))
     for crate in sorted(rows, key=lambda name: -sum(rows[name].values())):
-        yield line(crate, rows[crate].values())
+        yield f"{line(crate, rows[crate].values())}{reckoned.get(crate, 0):8.1f}"
     yield line("all crates", sums)
     yield f"{'the rest':<20}{'':24}{rest:8.1f}"
+    large = sorted((crate for crate in reckoned if reckoned[crate] > MOST_GB), key=lambda crate: -reckoned[crate])
+    yield f"over {MOST_GB} GB: " + (", ".join(f"{crate} {reckoned[crate]:.1f}" for crate in large) or "none")
 
 
 def main():

@@ -24,16 +24,16 @@ use Rattle.plain_pages.specs.WholePages.{AreWhole}
 use Rattle.machine_names.proofs.OrderLemmas.{page_cmp_total, page_tied, fork_cmp_total}
 use Rattle.plain_pages.proofs.Counts.{Same, page_tells, same_itself, weight, total_insert}
 use Rattle.plain_pages.proofs.Whole.{tally, uses_are, live_whole, no_values}
-use Rattle.flat_pages.specs.declared.held_entry.EntryAt.{EntryAt}
-use Rattle.flat_pages.specs.declared.held_entry.HeldEntry.{HeldEntry}
-use Rattle.flat_pages.specs.declared.held_entry.HeldEntry.TheVariants.{Empty, Page, Follows}
-use Rattle.flat_pages.specs.declared.held_map.HeldMap.{HeldMap}
-use Rattle.flat_pages.specs.HeldMaps.{map_at, fork_at, held_entry, name_at, name_of, nobody, entry_of, entries_of, maps_from, maps_held, entries_total, points_at, living_in}
-use Rattle.flat_pages.specs.SlotTables.{Objects, with_object, objects_from, objects_of, Tables, plain_of, share_of, is_at, filed_total, AreTables, AreSized}
-use Rattle.flat_pages.proofs.HeldEntries.{total_le, total_same, total_none, sum_zero, points_self, points_here, points_other}
-use Rattle.flat_pages.proofs.FiledHomes.{at_here, at_other, filed_some, sums_same, values_filed}
-use Rattle.flat_pages.proofs.ForkMaps.{Once, searched, index_none, fork_within}
-use Rattle.flat_pages.proofs.LivingMaps.{get_from, get_living, get_gone}
+use Rattle.flat_tables.specs.declared.held_entry.EntryAt.{EntryAt}
+use Rattle.flat_tables.specs.declared.held_entry.HeldEntry.{HeldEntry}
+use Rattle.flat_tables.specs.declared.held_entry.HeldEntry.TheVariants.{Empty, Page, Follows}
+use Rattle.flat_tables.specs.declared.held_map.HeldMap.{HeldMap}
+use Rattle.flat_tables.specs.HeldMaps.{map_at, fork_at, held_entry, name_at, name_of, nobody, entry_of, entries_of, maps_from, maps_held, entries_total, points_at, living_in}
+use Rattle.flat_tables.specs.SlotTables.{Objects, with_object, objects_from, objects_of, Tables, plain_of, share_of, is_at, filed_total, AreTables, AreSized}
+use Rattle.flat_tables.proofs.HeldEntries.{total_le, total_same, total_none, sum_zero, points_self, points_here, points_other}
+use Rattle.flat_tables.proofs.FiledHomes.{at_here, at_other, filed_some, sums_same, values_filed}
+use Rattle.flat_tables.proofs.ForkMaps.{Once, searched, index_none, fork_within}
+use Rattle.flat_tables.proofs.LivingMaps.{get_from, get_living, get_gone}
 
 -- a page has a home under its name, or none
 abbrev pub Housed : List (Option PageName) → PageName → Type 0

@@ -22,20 +22,20 @@ use Rattle.page_contracts.specs.Stores.{StoreMeaning, FitsHomes, traffic}
 use Rattle.page_contracts.proofs.Losing.{keeps_frames, loses_nothing, loses_on, none_on}
 use Rattle.plain_pages.specs.WholePages.{AreWhole}
 use Rattle.plain_pages.proofs.Kept.{entry_kept, entry_maps, uses_entry, unnamed_gone}
-use Rattle.flat_pages.specs.declared.held_entry.EntryAt.{EntryAt}
-use Rattle.flat_pages.specs.declared.held_entry.HeldEntry.{HeldEntry}
-use Rattle.flat_pages.specs.declared.held_entry.HeldEntry.TheVariants.{Empty}
-use Rattle.flat_pages.specs.declared.held_map.HeldMap.{HeldMap}
-use Rattle.flat_pages.specs.declared.map_tables.MapTables.{MapTables}
-use Rattle.flat_pages.specs.HeldMaps.{AreHeld, fork_at, held_entry, map_at, with_entry, entry_of}
-use Rattle.flat_pages.specs.SlotTables.{Tables, plain_of, AreTables}
+use Rattle.flat_tables.specs.declared.held_entry.EntryAt.{EntryAt}
+use Rattle.flat_tables.specs.declared.held_entry.HeldEntry.{HeldEntry}
+use Rattle.flat_tables.specs.declared.held_entry.HeldEntry.TheVariants.{Empty}
+use Rattle.flat_tables.specs.declared.held_map.HeldMap.{HeldMap}
+use Rattle.flat_tables.specs.declared.map_tables.MapTables.{MapTables}
+use Rattle.flat_tables.specs.HeldMaps.{AreHeld, fork_at, held_entry, map_at, with_entry, entry_of}
+use Rattle.flat_tables.specs.SlotTables.{Tables, plain_of, AreTables}
 use Rattle.flat_pages.specs.SlotMeaning.{AreTold}
-use Rattle.flat_pages.specs.SlotSteps.{HomeStays, NamesHome, SetsEntry}
-use Rattle.flat_pages.specs.TableSteps.{tables_of}
+use Rattle.flat_tables.specs.SlotSteps.{HomeStays, NamesHome, SetsEntry}
+use Rattle.flat_tables.specs.TableSteps.{tables_of}
 use Rattle.flat_pages.specs.Emptying.{AreFewer, EmptiesMap, MapNames}
-use Rattle.flat_pages.proofs.ForkMaps.{fork_within}
-use Rattle.flat_pages.proofs.HeldEntries.{entry_same, entry_other, fork_set, maps_length}
-use Rattle.flat_pages.proofs.LivingMaps.{inserted, entry_held}
+use Rattle.flat_tables.proofs.ForkMaps.{fork_within}
+use Rattle.flat_tables.proofs.HeldEntries.{entry_same, entry_other, fork_set, maps_length}
+use Rattle.flat_tables.proofs.LivingMaps.{inserted, entry_held}
 use Rattle.flat_pages.proofs.EntrySetting.{same_core}
 
 -- the pages as they are

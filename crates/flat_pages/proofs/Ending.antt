@@ -21,16 +21,16 @@ use Rattle.machine_names.proofs.OrderLemmas.{fork_cmp_total, fork_cmp_apart, for
 use Rattle.plain_pages.proofs.Counts.{weight}
 use Rattle.plain_pages.proofs.Whole.{map_uses, uses_are}
 use Rattle.plain_pages.proofs.Kept.{AreKept, kept_same, kept_on, fork_kept, fork_maps, total_remove, unmapped_kept}
-use Rattle.flat_pages.specs.declared.held_entry.EntryAt.{EntryAt}
-use Rattle.flat_pages.specs.declared.held_entry.HeldEntry.{HeldEntry}
-use Rattle.flat_pages.specs.declared.held_entry.HeldEntry.TheVariants.{Empty}
-use Rattle.flat_pages.specs.declared.held_map.HeldMap.{HeldMap}
-use Rattle.flat_pages.specs.HeldMaps.{AreHeld, fork_at, held_entry, map_at, entries_of, entries_total, entry_of, points_at, index_of, living_in, living_of, maps_held}
-use Rattle.flat_pages.specs.SlotTables.{Tables, AreTables}
-use Rattle.flat_pages.specs.TableSteps.{fork_ended}
+use Rattle.flat_tables.specs.declared.held_entry.EntryAt.{EntryAt}
+use Rattle.flat_tables.specs.declared.held_entry.HeldEntry.{HeldEntry}
+use Rattle.flat_tables.specs.declared.held_entry.HeldEntry.TheVariants.{Empty}
+use Rattle.flat_tables.specs.declared.held_map.HeldMap.{HeldMap}
+use Rattle.flat_tables.specs.HeldMaps.{AreHeld, fork_at, held_entry, map_at, entries_of, entries_total, entry_of, points_at, index_of, living_in, living_of, maps_held}
+use Rattle.flat_tables.specs.SlotTables.{Tables, AreTables}
+use Rattle.flat_tables.specs.TableSteps.{fork_ended}
 use Rattle.flat_pages.specs.Emptying.{AreFewer}
-use Rattle.flat_pages.proofs.ForkMaps.{SameFork, fork_tells, Once, searched, index_is, index_none, fork_within}
-use Rattle.flat_pages.proofs.LivingMaps.{get_living, get_gone}
+use Rattle.flat_tables.proofs.ForkMaps.{SameFork, fork_tells, Once, searched, index_is, index_none, fork_within}
+use Rattle.flat_tables.proofs.LivingMaps.{get_living, get_gone}
 
 module _ (maps : List HeldMap) (held : AreHeld maps) (k : ℕ) (f : ForkName) (is : fork_at maps k ≡ Some f) where
   abbrev ended : List HeldMap

@@ -1,5 +1,5 @@
 -- What setting an entry leaves, in one record for each way.
-use Rattle.std.proofs.Common.{◌≡◌, ℕ, Option, Some, true, refl, sym, ap, subst}
+use Rattle.std.proofs.Common.{◌≡◌, ℕ, Some, true, refl, sym, ap, subst}
 use Rattle.std.specs.FinMap as fin
 use Rattle.machine_names.specs.Orders.{file_page}
 use Rattle.machine_names.specs.declared.names.Access.{Access}
@@ -11,17 +11,17 @@ use Rattle.plain_pages.specs.declared.map.NewEntry.TheVariants as new_entry
 use Rattle.page_contracts.specs.Changes.{EntrySet}
 use Rattle.page_contracts.specs.Pages.{PagesMeaning, is_entry}
 use Rattle.page_contracts.specs.Stores.{StoreMeaning}
-use Rattle.flat_pages.specs.declared.held_entry.EntryAt.{EntryAt}
-use Rattle.flat_pages.specs.declared.held_entry.HeldEntry.{HeldEntry}
-use Rattle.flat_pages.specs.declared.held_entry.HeldEntry.TheVariants.{Empty, Page, Follows}
-use Rattle.flat_pages.specs.declared.held_entry.Link.{Link}
-use Rattle.flat_pages.specs.declared.map_tables.MapTables.{MapTables}
-use Rattle.flat_pages.specs.HeldMaps.{held_entry, index_of}
-use Rattle.flat_pages.specs.Serials.{serial_of}
-use Rattle.flat_pages.specs.SlotMeaning.{seen_in, slots_meaning}
-use Rattle.flat_pages.specs.SlotSteps.{SetsEntry, narrow_held}
-use Rattle.flat_pages.specs.SlotTables.{AreTables, Tables}
-use Rattle.flat_pages.specs.TableSteps.{tables_of}
+use Rattle.flat_tables.specs.declared.held_entry.EntryAt.{EntryAt}
+use Rattle.flat_tables.specs.declared.held_entry.HeldEntry.{HeldEntry}
+use Rattle.flat_tables.specs.declared.held_entry.HeldEntry.TheVariants.{Empty, Page, Follows}
+use Rattle.flat_tables.specs.declared.held_entry.Link.{Link}
+use Rattle.flat_tables.specs.declared.map_tables.MapTables.{MapTables}
+use Rattle.flat_tables.specs.HeldMaps.{held_entry, index_of}
+use Rattle.flat_tables.specs.Serials.{serial_of}
+use Rattle.flat_pages.specs.SlotMeaning.{slots_meaning}
+use Rattle.flat_tables.specs.SlotSteps.{SetsEntry, narrow_held}
+use Rattle.flat_tables.specs.SlotTables.{AreTables}
+use Rattle.flat_tables.specs.TableSteps.{tables_of}
 use Rattle.flat_pages.proofs.MapHomes.{sets_entry}
 use Rattle.flat_pages.proofs.SlotSetting.{Changes, seen_there, set_lives, set_living, told_empty, told_follows, told_narrow, told_page}
 

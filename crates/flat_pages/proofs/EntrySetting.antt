@@ -13,22 +13,22 @@ use Rattle.page_contracts.specs.DrumWords.{DrumWords}
 use Rattle.page_contracts.specs.Pages.{Scene, StaysInCore}
 use Rattle.page_contracts.specs.Stores.{StoreMeaning, IsSound, IsFreed, Loses, RenewsNone, FitsHomes, free, place, content, traffic}
 use Rattle.page_contracts.proofs.Losing.{freed_none, keeps_frames, loses_freed, loses_nothing}
-use Rattle.flat_pages.specs.declared.held_entry.EntryAt.{EntryAt}
-use Rattle.flat_pages.specs.declared.held_entry.HeldEntry.{HeldEntry}
-use Rattle.flat_pages.specs.declared.held_entry.HeldEntry.TheVariants.{Empty, Page, Follows}
-use Rattle.flat_pages.specs.declared.held_entry.Link.{Link}
-use Rattle.flat_pages.specs.declared.map_tables.MapTables.{MapTables}
-use Rattle.flat_pages.specs.HeldMaps.{fork_at, held_entry, with_entry, name_at, entry_of, maps_held, points_at}
-use Rattle.flat_pages.specs.SlotTables.{Tables, files_held, share_of, AreTables}
-use Rattle.flat_pages.specs.SlotTouches.{scene_of, is_alone}
+use Rattle.flat_tables.specs.declared.held_entry.EntryAt.{EntryAt}
+use Rattle.flat_tables.specs.declared.held_entry.HeldEntry.{HeldEntry}
+use Rattle.flat_tables.specs.declared.held_entry.HeldEntry.TheVariants.{Empty, Page, Follows}
+use Rattle.flat_tables.specs.declared.held_entry.Link.{Link}
+use Rattle.flat_tables.specs.declared.map_tables.MapTables.{MapTables}
+use Rattle.flat_tables.specs.HeldMaps.{fork_at, held_entry, with_entry, name_at, entry_of, maps_held, points_at}
+use Rattle.flat_tables.specs.SlotTables.{Tables, files_held, share_of, AreTables}
+use Rattle.flat_tables.specs.SlotTouches.{scene_of, is_alone}
 use Rattle.flat_pages.specs.SlotMeaning.{AreTold}
-use Rattle.flat_pages.specs.TableSteps.{tables_of, entry_kept, entry_left, home_freed}
-use Rattle.flat_pages.specs.SlotSteps.{HomeStays, NamesHome, SetsEntry}
-use Rattle.flat_pages.proofs.HeldEntries.{points_self}
-use Rattle.flat_pages.proofs.LivingMaps.{entry_held}
+use Rattle.flat_tables.specs.TableSteps.{tables_of, entry_kept, entry_left, home_freed}
+use Rattle.flat_tables.specs.SlotSteps.{HomeStays, NamesHome, SetsEntry}
+use Rattle.flat_tables.proofs.HeldEntries.{points_self}
+use Rattle.flat_tables.proofs.LivingMaps.{entry_held}
 use Rattle.flat_pages.proofs.Settling.{sized_of, content_other, fits_set}
 use Rattle.flat_pages.proofs.Told.{maps_set, none_else, none_filed, entry_still}
-use Rattle.flat_pages.proofs.FiledHomes.{files_still}
+use Rattle.flat_tables.proofs.FiledHomes.{files_still}
 use Rattle.flat_pages.proofs.Leaving.{kept_tables, left_tables, freed_tables, name_kept, named_of, told_set}
 use Rattle.flat_pages.proofs.GivenUp.{gone_not, freed_stays, freed_core}
 use Rattle.flat_pages.proofs.Telling.{tables_told}

@@ -13,12 +13,12 @@ use Rattle.machine_names.specs.Orders.{FilePage, file_page_cmp}
 use Rattle.page_homes.specs.declared.homes.Home.{Home}
 use Rattle.page_files.specs.Pages.{PagesOf}
 use Rattle.plain_pages.proofs.Counts.{ordered_less, both_first, both_second}
-use Rattle.flat_pages.specs.declared.held_map.HeldMap.{HeldMap}
-use Rattle.flat_pages.specs.HeldMaps.{map_at, entries_total, points_at}
-use Rattle.flat_pages.specs.SlotTables.{Tables, is_at, filed_total, share_of, AreTables}
-use Rattle.flat_pages.specs.TableSteps.{joined_shares}
-use Rattle.flat_pages.proofs.FiledHomes.{filed_order, at_here, at_other}
-use Rattle.flat_pages.proofs.Taking.{points_most}
+use Rattle.flat_tables.specs.declared.held_map.HeldMap.{HeldMap}
+use Rattle.flat_tables.specs.HeldMaps.{map_at, entries_total, points_at}
+use Rattle.flat_tables.specs.SlotTables.{Tables, is_at, filed_total, share_of, AreTables}
+use Rattle.flat_tables.specs.TableSteps.{joined_shares}
+use Rattle.flat_tables.proofs.FiledHomes.{filed_order, at_here, at_other}
+use Rattle.flat_tables.proofs.Taking.{points_most}
 
 -- the count of each home, once a page is named once more
 pub joined_is : (shares : List ℕ) (h : Home) → h.0 < length shares → (k : ℕ) → share_of (joined_shares shares h) k ≡ share_of shares k + is_at k h

@@ -27,22 +27,22 @@ use Rattle.plain_pages.specs.declared.map.MapEntry.{MapEntry}
 use Rattle.plain_pages.specs.declared.map.MapEntry.TheVariants as entry
 use Rattle.plain_pages.proofs.Kept.{AreStill, entry_again, still_same, unnamed_gone}
 use Rattle.plain_pages.proofs.FilesKept.{filed_again, filed_files, filed_maps, filed_still, uses_filed, set_elsewhere, same_files, without_files, without_maps, without_still}
-use Rattle.flat_pages.specs.declared.held_entry.EntryAt.{EntryAt}
-use Rattle.flat_pages.specs.declared.held_entry.HeldEntry.{HeldEntry}
-use Rattle.flat_pages.specs.declared.held_entry.HeldEntry.TheVariants.{Empty, Page}
-use Rattle.flat_pages.specs.declared.held_map.HeldMap.{HeldMap}
-use Rattle.flat_pages.specs.declared.map_tables.MapTables.{MapTables}
-use Rattle.flat_pages.specs.HeldMaps.{fork_at, held_entry, with_entry, name_at, name_of, nobody, entry_of}
-use Rattle.flat_pages.specs.SlotTables.{Tables, plain_of, files_held, AreTables}
+use Rattle.flat_tables.specs.declared.held_entry.EntryAt.{EntryAt}
+use Rattle.flat_tables.specs.declared.held_entry.HeldEntry.{HeldEntry}
+use Rattle.flat_tables.specs.declared.held_entry.HeldEntry.TheVariants.{Empty, Page}
+use Rattle.flat_tables.specs.declared.held_map.HeldMap.{HeldMap}
+use Rattle.flat_tables.specs.declared.map_tables.MapTables.{MapTables}
+use Rattle.flat_tables.specs.HeldMaps.{fork_at, held_entry, with_entry, name_at, name_of, nobody, entry_of}
+use Rattle.flat_tables.specs.SlotTables.{Tables, plain_of, files_held, AreTables}
 use Rattle.flat_pages.specs.SlotMeaning.{AreTold}
-use Rattle.flat_pages.specs.SlotSteps.{HomeStays, NamesHome, SetsEntry}
+use Rattle.flat_tables.specs.SlotSteps.{HomeStays, NamesHome, SetsEntry}
 use Rattle.flat_pages.specs.FileSteps.{AreFewerFiled, EmptiesFile, FileHas, HasHome, IsFiled, SetsFile}
-use Rattle.flat_pages.specs.Walks.{slot_of}
-use Rattle.flat_pages.specs.TableSteps.{tables_of}
-use Rattle.flat_pages.proofs.FiledHomes.{filed_apart, get_filed}
+use Rattle.flat_tables.specs.Walks.{slot_of}
+use Rattle.flat_tables.specs.TableSteps.{tables_of}
+use Rattle.flat_tables.proofs.FiledHomes.{filed_apart, get_filed}
 use Rattle.flat_pages.proofs.Agreement.{filed_named, tables_whole, uses_home}
-use Rattle.flat_pages.proofs.HeldEntries.{entry_same, entry_twice, fork_set}
-use Rattle.flat_pages.proofs.LivingMaps.{entry_held}
+use Rattle.flat_tables.proofs.HeldEntries.{entry_same, entry_twice, fork_set}
+use Rattle.flat_tables.proofs.LivingMaps.{entry_held}
 use Rattle.flat_pages.proofs.Settling.{sized_of}
 use Rattle.flat_pages.proofs.EntrySetting.{same_core}
 use Rattle.flat_pages.proofs.EmptyMaps.{core_on, less_used}

@@ -19,23 +19,23 @@ use Rattle.page_contracts.proofs.Losing.{freed_none, keeps_frames, loses_freed, 
 use Rattle.plain_pages.specs.FilePages.{files_with, with_file}
 use Rattle.plain_pages.proofs.Kept.{still_same}
 use Rattle.plain_pages.proofs.FilesKept.{filed_still, filed_maps, filed_files}
-use Rattle.flat_pages.specs.declared.held_entry.EntryAt.{EntryAt}
-use Rattle.flat_pages.specs.declared.held_entry.HeldEntry.{HeldEntry}
-use Rattle.flat_pages.specs.declared.held_entry.HeldEntry.TheVariants.{Empty, Page}
-use Rattle.flat_pages.specs.declared.held_map.HeldMap.{HeldMap}
-use Rattle.flat_pages.specs.declared.map_tables.MapTables.{MapTables}
-use Rattle.flat_pages.specs.HeldMaps.{fork_at, held_entry, name_at, name_of, entry_of, entries_of, maps_from, maps_held, points_at, entries_total}
-use Rattle.flat_pages.specs.SlotTables.{Tables, plain_of, files_held, is_at, filed_total, share_of, AreTables}
-use Rattle.flat_pages.specs.SlotTouches.{scene_of}
+use Rattle.flat_tables.specs.declared.held_entry.EntryAt.{EntryAt}
+use Rattle.flat_tables.specs.declared.held_entry.HeldEntry.{HeldEntry}
+use Rattle.flat_tables.specs.declared.held_entry.HeldEntry.TheVariants.{Empty, Page}
+use Rattle.flat_tables.specs.declared.held_map.HeldMap.{HeldMap}
+use Rattle.flat_tables.specs.declared.map_tables.MapTables.{MapTables}
+use Rattle.flat_tables.specs.HeldMaps.{fork_at, held_entry, name_at, name_of, entry_of, entries_of, maps_from, maps_held, points_at, entries_total}
+use Rattle.flat_tables.specs.SlotTables.{Tables, plain_of, files_held, is_at, filed_total, share_of, AreTables}
+use Rattle.flat_tables.specs.SlotTouches.{scene_of}
 use Rattle.flat_pages.specs.SlotMeaning.{AreTold}
-use Rattle.flat_pages.specs.TableSteps.{tables_of, joined_shares, entry_joined, file_joined, file_left, file_freed}
-use Rattle.flat_pages.specs.SlotSteps.{HomeStays, SetsEntry}
+use Rattle.flat_tables.specs.TableSteps.{tables_of, joined_shares, entry_joined, file_joined, file_left, file_freed}
+use Rattle.flat_tables.specs.SlotSteps.{HomeStays, SetsEntry}
 use Rattle.flat_pages.specs.FileSteps.{IsFiled, SetsFile}
-use Rattle.flat_pages.proofs.HeldEntries.{total_with, total_le}
-use Rattle.flat_pages.proofs.FiledHomes.{at_here, at_itself, at_other, filed_more, filed_less, filed_within, filed_without, filed_some, files_still, get_filed, held_insert, held_remove, homes_with, with_here, with_elsewhere, without_none}
+use Rattle.flat_tables.proofs.HeldEntries.{total_with, total_le}
+use Rattle.flat_tables.proofs.FiledHomes.{at_here, at_itself, at_other, filed_more, filed_less, filed_within, filed_without, filed_some, files_still, get_filed, held_insert, held_remove, homes_with, with_here, with_elsewhere, without_none}
 use Rattle.flat_pages.proofs.FileCounts.{joined_is, parted_is}
 use Rattle.flat_pages.proofs.Agreement.{tables_whole}
-use Rattle.flat_pages.proofs.Taking.{held_set, living_set, positive_same}
+use Rattle.flat_tables.proofs.Taking.{held_set, living_set, positive_same}
 use Rattle.flat_pages.proofs.Told.{map_same, entry_still}
 use Rattle.flat_pages.proofs.Settling.{sized_of, content_other, fits_set}
 use Rattle.flat_pages.proofs.Telling.{tables_told}

@@ -22,33 +22,32 @@ use Rattle.page_contracts.specs.declared.answers.Touch.{Touch}
 use Rattle.page_contracts.specs.declared.answers.Touch.TheVariants.{Ready, Zero, Copy, Absent, NeedFrame, Denied, Full}
 use Rattle.page_contracts.specs.DrumWords.{DrumWords}
 use Rattle.page_contracts.specs.Changes.{PageSettled}
-use Rattle.page_contracts.specs.Pages.{FilesMade, PagesMeaning, SettlesHome, SettlesTo, StandsAt, StandsInFile, TakesFrames, UsesPlace, MayLose, map_set, spot_of, IsPlace, absent_or, framed, can_settle, frames_taken}
+use Rattle.page_contracts.specs.Pages.{FilesMade, PagesMeaning, SettlesTo, TakesFrames, map_set, IsPlace, absent_or, framed, can_settle, frames_taken}
 use Rattle.page_contracts.specs.Stores.{StoreMeaning, HomePlace, IsSound, IsUsed, Loses, RenewsOne, FitsHomes, free, here, place, is_here, away_at, away_home, traffic}
 use Rattle.page_contracts.proofs.Losing.{loses_made, loses_used, made_one, used_one}
 use Rattle.plain_pages.specs.PlainPages.{NumberedPages}
 use Rattle.plain_pages.specs.References.{in_file, blank, make, next_making, next_page, settled, Making}
 use Rattle.plain_pages.proofs.Made.{is_filed}
 use Rattle.plain_pages.proofs.ReferencesMade.{settled_makes, settled_stays}
-use Rattle.flat_pages.specs.declared.map_tables.MapTables.{MapTables}
-use Rattle.flat_pages.specs.HeldMaps.{index_of, living_of, name_at, name_of, nobody, maps_held}
-use Rattle.flat_pages.specs.Serials.{serial_of, with_next}
-use Rattle.flat_pages.specs.SlotTables.{Tables, plain_of, files_held, share_of, AreTables, AreSized}
-use Rattle.flat_pages.specs.SlotTouches.{home_named, scene_of, has_room, touch_filed, touch_of_place}
+use Rattle.flat_tables.specs.declared.map_tables.MapTables.{MapTables}
+use Rattle.flat_tables.specs.HeldMaps.{index_of, living_of, name_at, name_of, nobody, maps_held}
+use Rattle.flat_tables.specs.Serials.{serial_of, with_next}
+use Rattle.flat_tables.specs.SlotTables.{Tables, plain_of, files_held, share_of, AreTables, AreSized}
+use Rattle.flat_tables.specs.SlotTouches.{scene_of, has_room, touch_filed, touch_of_place}
 use Rattle.flat_pages.specs.SlotMeaning.{filed_in, slots_meaning}
-use Rattle.flat_pages.specs.TableSteps.{tables_of, next_name, home_filed}
+use Rattle.flat_tables.specs.TableSteps.{tables_of, next_name, home_filed}
 use Rattle.flat_pages.specs.FileSteps.{FilesHome, SettlesFiled, UsesFiled}
 use Rattle.flat_pages.proofs.Agreement.{filed_named, tables_whole}
-use Rattle.flat_pages.proofs.FiledHomes.{files_still, get_filed, held_insert, with_here, with_elsewhere}
+use Rattle.flat_tables.proofs.FiledHomes.{files_still, get_filed, held_insert, with_here, with_elsewhere}
 use Rattle.flat_pages.proofs.FileSetting.{maps_alike}
 use Rattle.flat_pages.proofs.FileTouches.{makes_in}
 use Rattle.flat_pages.proofs.HandedOn.{used_within}
 use Rattle.flat_pages.proofs.MapHomes.{settles_home}
-use Rattle.flat_pages.proofs.HeldEntries.{total_le}
+use Rattle.flat_tables.proofs.HeldEntries.{total_le}
 use Rattle.flat_pages.proofs.Settled.{ArePages, takes_frames, unused}
 use Rattle.flat_pages.proofs.Settling.{content_other, content_set, fits_set, sized_of, terminals_next, console_next}
 use Rattle.flat_pages.proofs.Told.{entry_still, told_made}
-use Rattle.flat_pages.proofs.Touching.{home_is}
-use Rattle.flat_pages.proofs.NextSerials.{next_own, next_other}
+use Rattle.flat_tables.proofs.NextSerials.{next_own, next_other}
 use Rattle.flat_pages.proofs.Rooming.{here_when}
 use Rattle.flat_pages.proofs.Using.{home_filed_at, made_here, no_map_home, stands_filed, used_here}
 
@@ -149,7 +148,7 @@ module _ (t : Tables) (a : AreTables t) (pages : ArePages t) (frames : ℕ) (fil
       files_are = held_insert u.names t.files f h ∙ (λ i. fin.insert (files_still t.names u.names t.files h.0 (omega (arith, no_name, a.shares h.0)) name_other i) f (is_next i))
 
       maps_are : maps_held u.names t.maps ≡ maps_held t.names t.maps
-      maps_are = maps_alike t.names u.names t.maps (λ b x held. entry_still t.names u.names h.0 x name_other (omega (arith, no_name, a.shares h.0, total_le (Rattle.flat_pages.specs.HeldMaps.points_at h.0) t.maps b x refl held)))
+      maps_are = maps_alike t.names u.names t.maps (λ b x held. entry_still t.names u.names h.0 x name_other (omega (arith, no_name, a.shares h.0, total_le (Rattle.flat_tables.specs.HeldMaps.points_at h.0) t.maps b x refl held)))
 
       near_now : away_at u.places h.0 ≡ None
       near_now = ap (λ p. away_home p h.0) (get_or-set_same t.places h.0 (here zero_words) free within_places)

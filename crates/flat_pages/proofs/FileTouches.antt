@@ -20,11 +20,11 @@ use Rattle.plain_pages.specs.PlainPages.{NumberedPages}
 use Rattle.plain_pages.specs.Room.{HasRoom}
 use Rattle.plain_pages.specs.References.{in_file, Making, blank, in_its_file, makings, make, make_all, Referred, granted, full, reference, next_making, page_at}
 use Rattle.plain_pages.proofs.ReferencesMade.{reference_makes, reference_denied, make_first}
-use Rattle.flat_pages.specs.HeldMaps.{nobody, name_of}
-use Rattle.flat_pages.specs.SlotTables.{Tables, plain_of, AreTables, AreSized}
-use Rattle.flat_pages.specs.SlotTouches.{scene_of, has_room, touch_filed}
+use Rattle.flat_tables.specs.HeldMaps.{nobody, name_of}
+use Rattle.flat_tables.specs.SlotTables.{Tables, plain_of, AreTables, AreSized}
+use Rattle.flat_tables.specs.SlotTouches.{scene_of, has_room, touch_filed}
 use Rattle.flat_pages.proofs.Agreement.{filed_named, tables_whole, tables_live}
-use Rattle.flat_pages.proofs.FiledHomes.{get_filed}
+use Rattle.flat_tables.proofs.FiledHomes.{get_filed}
 use Rattle.flat_pages.proofs.Touching.{home_is}
 
 module _ (t : Tables) (a : AreTables t) (frames : ℕ) (d : DrumWords) (sized : AreSized t.places d) (owner : Tty) (own : IsOwner owner) (f : FilePage ℕ) where

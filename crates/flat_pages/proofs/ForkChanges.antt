@@ -6,21 +6,20 @@ use Rattle.machine_names.specs.declared.names.TheConstants.{MOST_FORKS, TERMINAL
 use Rattle.plain_pages.specs.declared.map.NewMap.{NewMap}
 use Rattle.plain_pages.specs.NewMaps.{new_map}
 use Rattle.page_contracts.specs.Changes.{ForkAdded, ForkDropped}
-use Rattle.page_contracts.specs.DrumWords.{DrumWords}
 use Rattle.page_contracts.specs.Pages.{PagesMeaning, StaysInCore, TakesMap}
 use Rattle.page_contracts.specs.Stores.{StoreMeaning, FitsHomes, HomePlace, Loses, RenewsNone, traffic}
 use Rattle.page_contracts.proofs.Losing.{keeps_frames, loses_nothing}
-use Rattle.flat_pages.specs.declared.held_entry.HeldEntry.{HeldEntry}
-use Rattle.flat_pages.specs.declared.map_tables.MapTables.{MapTables}
+use Rattle.flat_tables.specs.declared.held_entry.HeldEntry.{HeldEntry}
+use Rattle.flat_tables.specs.declared.map_tables.MapTables.{MapTables}
 use Rattle.flat_pages.specs.Emptying.{EmptiesMap, MapNames}
-use Rattle.flat_pages.specs.HeldMaps.{entry_of, first_map, fork_at, index_of}
-use Rattle.flat_pages.specs.Serials.{serial_of}
+use Rattle.flat_tables.specs.HeldMaps.{entry_of, first_map, fork_at, index_of}
+use Rattle.flat_tables.specs.Serials.{serial_of}
 use Rattle.flat_pages.specs.SlotMeaning.{AreTold, slots_meaning}
-use Rattle.flat_pages.specs.SlotSteps.{HomeStays}
-use Rattle.flat_pages.specs.SlotTables.{AreTables, Tables, files_held, plain_of}
-use Rattle.flat_pages.specs.SlotTouches.{scene_of}
-use Rattle.flat_pages.specs.TableSteps.{fork_begun, fork_ended, tables_of}
-use Rattle.flat_pages.proofs.Beginning.{AreNew, index_begun, others_live, own_lives, scene_begun, serials_begun, told_begun, unnamed_begun, who_lives}
+use Rattle.flat_tables.specs.SlotSteps.{HomeStays}
+use Rattle.flat_tables.specs.SlotTables.{AreTables, Tables, files_held, plain_of}
+use Rattle.flat_tables.specs.SlotTouches.{scene_of}
+use Rattle.flat_tables.specs.TableSteps.{fork_begun, fork_ended, tables_of}
+use Rattle.flat_tables.proofs.Beginning.{AreNew, index_begun, others_live, own_lives, scene_begun, serials_begun, told_begun, unnamed_begun, who_lives}
 use Rattle.flat_pages.proofs.ForkEnds.{ended_agrees, fork_core, fork_drops, fork_lives, fork_other, fork_own}
 use Rattle.flat_pages.proofs.MapHomes.{adds_map, drops_map}
 

@@ -10,19 +10,19 @@ use Rattle.plain_pages.specs.References.{without_fork}
 use Rattle.page_contracts.specs.Pages.{StaysInCore}
 use Rattle.machine_names.specs.Orders.{same_fork}
 use Rattle.page_contracts.specs.Stores.{StoreMeaning, HomePlace, IsSound, FitsHomes}
-use Rattle.flat_pages.specs.declared.held_entry.HeldEntry.{HeldEntry}
-use Rattle.flat_pages.specs.declared.held_entry.HeldEntry.TheVariants.{Empty}
-use Rattle.flat_pages.specs.declared.held_map.HeldMap.{HeldMap}
-use Rattle.flat_pages.specs.declared.map_tables.MapTables.{MapTables}
-use Rattle.flat_pages.specs.HeldMaps.{fork_at, held_entry, map_at, entries_of, index_of, living_of}
-use Rattle.flat_pages.specs.SlotTables.{Tables, plain_of, AreTables}
-use Rattle.flat_pages.specs.SlotTouches.{scene_of}
+use Rattle.flat_tables.specs.declared.held_entry.HeldEntry.{HeldEntry}
+use Rattle.flat_tables.specs.declared.held_entry.HeldEntry.TheVariants.{Empty}
+use Rattle.flat_tables.specs.declared.held_map.HeldMap.{HeldMap}
+use Rattle.flat_tables.specs.declared.map_tables.MapTables.{MapTables}
+use Rattle.flat_tables.specs.HeldMaps.{fork_at, held_entry, map_at, entries_of, index_of, living_of}
+use Rattle.flat_tables.specs.SlotTables.{Tables, plain_of, AreTables}
+use Rattle.flat_tables.specs.SlotTouches.{scene_of}
 use Rattle.flat_pages.specs.SlotMeaning.{AreTold}
-use Rattle.flat_pages.specs.TableSteps.{tables_of, fork_ended}
+use Rattle.flat_tables.specs.TableSteps.{tables_of, fork_ended}
 use Rattle.flat_pages.specs.Emptying.{EmptiesMap}
 use Rattle.flat_pages.proofs.Ending.{ended_tables, ended_living, ended_own, ended_other, ended_lives, ended_maps, none_named, fewer_without}
-use Rattle.flat_pages.proofs.ForkMaps.{index_fork, fork_within}
-use Rattle.flat_pages.proofs.LivingMaps.{get_living}
+use Rattle.flat_tables.proofs.ForkMaps.{index_fork, fork_within}
+use Rattle.flat_tables.proofs.LivingMaps.{get_living}
 use Rattle.flat_pages.proofs.SlotSetting.{SameForks, index_same, living_same}
 use Rattle.flat_pages.proofs.Telling.{tables_told}
 

@@ -9,10 +9,10 @@ use Rattle.page_contracts.specs.DrumWords.{DrumWords}
 use Rattle.page_contracts.specs.Pages.{HasSpace, OnlyUses, PagesMeaning}
 use Rattle.page_contracts.specs.Stores.{HasPage, IsSound, IsUsed, StoreMeaning, place, word_in}
 use Rattle.page_contracts.proofs.Losing.{loses_used}
-use Rattle.flat_pages.specs.declared.map_tables.MapTables.{MapTables}
+use Rattle.flat_tables.specs.declared.map_tables.MapTables.{MapTables}
 use Rattle.flat_pages.specs.SlotMeaning.{slots_meaning}
-use Rattle.flat_pages.specs.SlotTables.{AreTables, Tables}
-use Rattle.flat_pages.specs.TableSteps.{tables_of}
+use Rattle.flat_tables.specs.SlotTables.{AreTables, Tables}
+use Rattle.flat_tables.specs.TableSteps.{tables_of}
 use Rattle.flat_pages.proofs.HandedOn.{only_uses}
 use Rattle.flat_pages.proofs.Meeting.{Placed, load_word, placed, space_fork}
 use Rattle.flat_pages.proofs.Settling.{sized_of}

@@ -8,10 +8,10 @@ use Rattle.machine_names.specs.declared.names.PageName.{PageName}
 use Rattle.page_homes.specs.declared.homes.Home.{Home}
 use Rattle.page_contracts.specs.Pages.{StaysInCore}
 use Rattle.page_contracts.specs.Stores.{StoreMeaning, IsFreed, HomePlace, free, place, away_at, away_home}
-use Rattle.flat_pages.specs.HeldMaps.{name_at}
-use Rattle.flat_pages.specs.SlotTables.{Tables, share_of, AreTables}
-use Rattle.flat_pages.specs.SlotTouches.{scene_of, home_named}
-use Rattle.flat_pages.specs.SlotSteps.{HomeStays}
+use Rattle.flat_tables.specs.HeldMaps.{name_at}
+use Rattle.flat_tables.specs.SlotTables.{Tables, share_of, AreTables}
+use Rattle.flat_tables.specs.SlotTouches.{scene_of, home_named}
+use Rattle.flat_tables.specs.SlotSteps.{HomeStays}
 use Rattle.flat_pages.proofs.Leaving.{name_kept, name_gone, named_of}
 use Rattle.flat_pages.proofs.Telling.{named_home}
 use Rattle.flat_pages.proofs.Touching.{home_is}

@@ -4,10 +4,10 @@ use Rattle.page_contracts.specs.Stores.{StoreMeaning, IsUsed, StaysFramed, Stays
 use Rattle.page_contracts.specs.Pages.{MayLose, OnlyUses, StaysSame, StaysPut}
 use Rattle.page_contracts.specs.declared.answers.Need.{Need}
 use Rattle.page_contracts.specs.declared.store.Completed.{Completed}
-use Rattle.flat_pages.specs.SlotTables.{Tables, plain_of}
-use Rattle.flat_pages.specs.SlotTouches.{home_named, touch_of_place, scene_of}
-use Rattle.flat_pages.specs.HeldMaps.{living_of}
-use Rattle.flat_pages.specs.Serials.{serial_of}
+use Rattle.flat_tables.specs.SlotTables.{Tables, plain_of}
+use Rattle.flat_tables.specs.SlotTouches.{home_named, touch_of_place, scene_of}
+use Rattle.flat_tables.specs.HeldMaps.{living_of}
+use Rattle.flat_tables.specs.Serials.{serial_of}
 use Rattle.flat_pages.specs.SlotMeaning.{filed_in, slots_meaning, within, place_along}
 
 module _ {P S : Type 0} (store : StoreMeaning S) (part : P → S) where

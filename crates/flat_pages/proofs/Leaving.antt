@@ -18,17 +18,17 @@ use Rattle.plain_pages.specs.Room.{uses}
 use Rattle.plain_pages.specs.References.{with_entry as entry_put}
 use Rattle.page_contracts.specs.Stores.{HomePlace, free, away, here, place, is_free, is_taken, free_homes, content}
 use Rattle.plain_pages.proofs.Kept.{AreStill, still, still_same, entry_kept as put_kept, entry_maps}
-use Rattle.flat_pages.specs.declared.held_entry.EntryAt.{EntryAt}
-use Rattle.flat_pages.specs.declared.held_entry.HeldEntry.{HeldEntry}
-use Rattle.flat_pages.specs.declared.held_entry.HeldEntry.TheVariants.{Empty, Page, Follows}
-use Rattle.flat_pages.specs.declared.held_entry.Link.{Link}
-use Rattle.flat_pages.specs.HeldMaps.{fork_at, held_entry, name_at, maps_held, points_at, entries_total}
-use Rattle.flat_pages.specs.SlotTables.{Tables, plain_of, files_held, share_of, filed_total, AreTables, AreSized}
-use Rattle.flat_pages.specs.TableSteps.{left_shares, entry_kept, entry_left, home_freed, file_freed}
-use Rattle.flat_pages.proofs.FiledHomes.{at_itself, at_other, filed_less, filed_without}
-use Rattle.flat_pages.proofs.HeldEntries.{total_with, total_le, points_self, points_other}
+use Rattle.flat_tables.specs.declared.held_entry.EntryAt.{EntryAt}
+use Rattle.flat_tables.specs.declared.held_entry.HeldEntry.{HeldEntry}
+use Rattle.flat_tables.specs.declared.held_entry.HeldEntry.TheVariants.{Empty, Page, Follows}
+use Rattle.flat_tables.specs.declared.held_entry.Link.{Link}
+use Rattle.flat_tables.specs.HeldMaps.{fork_at, held_entry, name_at, maps_held, points_at, entries_total}
+use Rattle.flat_tables.specs.SlotTables.{Tables, plain_of, files_held, share_of, filed_total, AreTables, AreSized}
+use Rattle.flat_tables.specs.TableSteps.{left_shares, entry_kept, entry_left, home_freed, file_freed}
+use Rattle.flat_tables.proofs.FiledHomes.{at_itself, at_other, filed_less, filed_without}
+use Rattle.flat_tables.proofs.HeldEntries.{total_with, total_le, points_self, points_other}
 use Rattle.flat_pages.proofs.Agreement.{Housed, housed, uses_home, uses_none, object_home, object_gone, tables_whole}
-use Rattle.flat_pages.proofs.Taking.{held_set, living_set, left_is, left_length, points_most, positive_same}
+use Rattle.flat_tables.proofs.Taking.{held_set, living_set, left_is, left_length, points_most, positive_same}
 
 -- a home is given up, whose page had one name
 module _ (t : Tables) (a : AreTables t) (h : Home) (one : share_of t.shares h.0 ≡ 1) where

@@ -4,7 +4,7 @@ use Rattle.std.specs.Option.{option_map, option_and_then, unwrap_or}
 use Rattle.std.specs.FinMap as fin
 use Rattle.machine_names.specs.Orders.{FilePage, file_page}
 use Rattle.flat_pages.specs.FileSteps.{FileHas, IsFiled}
-use Rattle.flat_pages.proofs.FiledHomes.{get_filed}
+use Rattle.flat_tables.proofs.FiledHomes.{get_filed}
 use Rattle.machine_names.specs.declared.names.Access.{Access}
 use Rattle.machine_names.specs.declared.names.ForkName.{ForkName}
 use Rattle.machine_names.specs.declared.names.PageName.{PageName}
@@ -15,14 +15,14 @@ use Rattle.plain_pages.specs.declared.map.MapEntry.TheVariants.{Names}
 use Rattle.page_contracts.specs.declared.answers.Seen.TheVariants.{Is}
 use Rattle.page_contracts.specs.Pages.{AddsMap, DropsFile, DropsMap, EntryNames, FileNames, IsOfFile, IsOfMap, NamesPage, PagesMeaning, SetsEntry, SetsFile, SettlesHome, StandsAt}
 use Rattle.page_contracts.specs.Stores.{StoreMeaning, free, is_here, place}
-use Rattle.flat_pages.specs.declared.held_entry.HeldEntry.{HeldEntry}
-use Rattle.flat_pages.specs.declared.held_entry.HeldEntry.TheVariants.{Empty, Page, Follows}
-use Rattle.flat_pages.specs.HeldMaps.{entry_of, held_entry, index_of, name_at, name_of, nobody}
+use Rattle.flat_tables.specs.declared.held_entry.HeldEntry.{HeldEntry}
+use Rattle.flat_tables.specs.declared.held_entry.HeldEntry.TheVariants.{Empty, Page, Follows}
+use Rattle.flat_tables.specs.HeldMaps.{entry_of, held_entry, index_of, name_at, name_of, nobody}
 use Rattle.flat_pages.specs.Emptying.{MapNames}
-use Rattle.flat_pages.specs.SlotSteps.{HomeStays, NamesHome}
+use Rattle.flat_tables.specs.SlotSteps.{HomeStays, NamesHome}
 use Rattle.flat_pages.specs.SlotMeaning.{filed_in, seen_entry, seen_in, slots_meaning}
-use Rattle.flat_pages.specs.SlotTables.{Tables, AreTables}
-use Rattle.flat_pages.specs.SlotTouches.{home_named}
+use Rattle.flat_tables.specs.SlotTables.{Tables, AreTables}
+use Rattle.flat_tables.specs.SlotTouches.{home_named}
 use Rattle.flat_pages.proofs.Agreement.{entry_named, filed_named}
 use Rattle.flat_pages.proofs.Telling.{named_home}
 use Rattle.flat_pages.proofs.Touching.{home_is}

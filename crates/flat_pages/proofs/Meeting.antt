@@ -29,20 +29,20 @@ use Rattle.page_contracts.specs.Pages.{Scene, IsPlace, touch_of, spot_of, peek_o
 use Rattle.machine_names.specs.Bounds.{IsOwner}
 use Rattle.page_contracts.specs.Stores.{HomePlace, free, away, here, place, is_taken, is_here, word_in, content}
 use Rattle.plain_pages.proofs.Chains.{marked}
-use Rattle.flat_pages.specs.declared.held_entry.EntryAt.{EntryAt}
-use Rattle.flat_pages.specs.declared.held_entry.HeldEntry.{HeldEntry}
-use Rattle.flat_pages.specs.declared.held_map.HeldMap.{HeldMap}
-use Rattle.flat_pages.specs.declared.chain_walk.Walk.{Walk}
-use Rattle.flat_pages.specs.HeldMaps.{index_of, held_entry, fork_at, maps_held, name_at, name_of}
-use Rattle.flat_pages.specs.declared.chain_walk.Use.{Use}
-use Rattle.flat_pages.specs.declared.chain_walk.Use.TheVariants as to
-use Rattle.flat_pages.specs.Walks.{slot_of, walk, use_of, lets_along, ready_home}
-use Rattle.flat_pages.specs.SlotTables.{Tables, plain_of, share_of, AreTables, AreSized}
-use Rattle.flat_pages.specs.SlotTouches.{walk_of, scene_of, has_room, is_alone, touch_copy, touch_made, touch_filed, touch_walked, touch_of_place, home_at, allows, copy_of}
+use Rattle.flat_tables.specs.declared.held_entry.EntryAt.{EntryAt}
+use Rattle.flat_tables.specs.declared.held_entry.HeldEntry.{HeldEntry}
+use Rattle.flat_tables.specs.declared.held_map.HeldMap.{HeldMap}
+use Rattle.flat_tables.specs.declared.chain_walk.Walk.{Walk}
+use Rattle.flat_tables.specs.HeldMaps.{index_of, held_entry, fork_at, maps_held, name_at, name_of}
+use Rattle.flat_tables.specs.declared.chain_walk.Use.{Use}
+use Rattle.flat_tables.specs.declared.chain_walk.Use.TheVariants as to
+use Rattle.flat_tables.specs.Walks.{slot_of, walk, use_of, lets_along, ready_home}
+use Rattle.flat_tables.specs.SlotTables.{Tables, plain_of, share_of, AreTables, AreSized}
+use Rattle.flat_tables.specs.SlotTouches.{walk_of, scene_of, has_room, is_alone, touch_copy, touch_made, touch_filed, touch_walked, touch_of_place, home_at, allows, copy_of}
 use Rattle.page_contracts.specs.Stores.{away_home, away_at}
-use Rattle.flat_pages.proofs.ForkMaps.{index_fork, index_is}
+use Rattle.flat_tables.proofs.ForkMaps.{index_fork, index_is}
 use Rattle.flat_pages.proofs.Agreement.{entry_named, filed_named, object_home, uses_home}
-use Rattle.flat_pages.proofs.FiledHomes.{get_filed}
+use Rattle.flat_tables.proofs.FiledHomes.{get_filed}
 use Rattle.flat_pages.proofs.Walked.{IsCopy, Meets, WalkIs, walked}
 use Rattle.flat_pages.proofs.Touching.{touch_told, home_is, none_away}
 use Rattle.flat_pages.proofs.Settling.{content_here}

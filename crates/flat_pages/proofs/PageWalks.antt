@@ -6,15 +6,15 @@ use Rattle.machine_names.specs.declared.names.ForkName.{ForkName}
 use Rattle.page_homes.specs.declared.homes.Home.{Home}
 use Rattle.machine_names.specs.declared.names.Tty.{Tty}
 use Rattle.plain_pages.specs.Maps.{full_access}
-use Rattle.flat_pages.specs.declared.held_entry.EntryAt.{EntryAt}
-use Rattle.flat_pages.specs.declared.held_entry.HeldEntry.{HeldEntry}
-use Rattle.flat_pages.specs.declared.held_entry.HeldEntry.TheVariants.{Empty, Page, Follows}
-use Rattle.flat_pages.specs.declared.held_entry.Link.{Link}
-use Rattle.flat_pages.specs.declared.held_map.HeldMap.{HeldMap}
-use Rattle.flat_pages.specs.declared.chain_walk.Walk.{Walk}
-use Rattle.flat_pages.specs.HeldMaps.{held_entry, index_of, with_entry}
-use Rattle.flat_pages.specs.Walks.{terminal_of, next_at, walk_end, walk_behind, walk_from, walk_within, walk}
-use Rattle.flat_pages.proofs.HeldEntries.{at_tells, fork_set, entry_same, entry_other}
+use Rattle.flat_tables.specs.declared.held_entry.EntryAt.{EntryAt}
+use Rattle.flat_tables.specs.declared.held_entry.HeldEntry.{HeldEntry}
+use Rattle.flat_tables.specs.declared.held_entry.HeldEntry.TheVariants.{Empty, Page, Follows}
+use Rattle.flat_tables.specs.declared.held_entry.Link.{Link}
+use Rattle.flat_tables.specs.declared.held_map.HeldMap.{HeldMap}
+use Rattle.flat_tables.specs.declared.chain_walk.Walk.{Walk}
+use Rattle.flat_tables.specs.HeldMaps.{held_entry, index_of, with_entry}
+use Rattle.flat_tables.specs.Walks.{terminal_of, next_at, walk_end, walk_behind, walk_from, walk_within, walk}
+use Rattle.flat_tables.proofs.HeldEntries.{at_tells, fork_set, entry_same, entry_other}
 use Rattle.flat_pages.proofs.SlotSetting.{set_forks, index_same}
 
 -- a link leads where it led

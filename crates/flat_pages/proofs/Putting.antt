@@ -20,8 +20,8 @@ use Rattle.page_contracts.specs.Pages.{spot_of}
 use Rattle.page_contracts.specs.Stores.{HomePlace, free, here, place, is_free, is_taken, with_word_in, free_homes, content}
 use Rattle.machine_names.proofs.OrderLemmas.{page_cmp_total, page_cmp_apart, page_tied}
 use Rattle.plain_pages.proofs.Counts.{Same, page_tells}
-use Rattle.flat_pages.specs.HeldMaps.{name_at}
-use Rattle.flat_pages.specs.SlotTables.{Tables, plain_of, AreTables, AreSized}
+use Rattle.flat_tables.specs.HeldMaps.{name_at}
+use Rattle.flat_tables.specs.SlotTables.{Tables, plain_of, AreTables, AreSized}
 use Rattle.page_contracts.specs.Stores.{away_home, away_at}
 use Rattle.page_contracts.proofs.HomeCounts.{free_mapped}
 use Rattle.flat_pages.proofs.Agreement.{Housed, housed, object_home, object_gone}

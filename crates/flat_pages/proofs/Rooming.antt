@@ -2,8 +2,8 @@
 use Rattle.std.proofs.Common.{◌≡◌, ℕ, ◌≤◌, List, true, false, None, Some, refl, arith}
 use Rattle.std.proofs.lemmas.Bool.Decides.{nat_tests}
 use Rattle.page_contracts.specs.Stores.{HomePlace, free, away, here, place, is_taken, is_here}
-use Rattle.flat_pages.specs.SlotTables.{Tables}
-use Rattle.flat_pages.specs.SlotTouches.{has_room}
+use Rattle.flat_tables.specs.SlotTables.{Tables}
+use Rattle.flat_tables.specs.SlotTouches.{has_room}
 use Rattle.page_contracts.specs.Stores.{away_at, away_home}
 
 -- where there is room for some pages there is for one

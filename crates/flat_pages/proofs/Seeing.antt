@@ -11,15 +11,15 @@ use Rattle.plain_pages.specs.declared.map.MapEntry.{MapEntry}
 use Rattle.page_contracts.specs.declared.answers.Seen.TheVariants.{Is, Missing}
 use Rattle.page_contracts.specs.DrumWords.{DrumWords}
 use Rattle.page_contracts.specs.Pages.{seen_of, map_away_or, FollowsPage}
-use Rattle.flat_pages.specs.declared.held_entry.EntryAt.{EntryAt}
-use Rattle.flat_pages.specs.declared.held_entry.HeldEntry.{HeldEntry}
-use Rattle.flat_pages.specs.declared.held_entry.HeldEntry.TheVariants.{Empty, Page, Follows}
-use Rattle.flat_pages.specs.declared.held_map.HeldMap.{HeldMap}
-use Rattle.flat_pages.specs.HeldMaps.{map_at, fork_at, held_entry, index_of, entry_of, AreHeld}
-use Rattle.flat_pages.specs.SlotTables.{Tables, plain_of, AreTables}
-use Rattle.flat_pages.specs.SlotTouches.{scene_of}
-use Rattle.flat_pages.proofs.ForkMaps.{index_fork, fork_within}
-use Rattle.flat_pages.proofs.LivingMaps.{entry_held, entry_gone}
+use Rattle.flat_tables.specs.declared.held_entry.EntryAt.{EntryAt}
+use Rattle.flat_tables.specs.declared.held_entry.HeldEntry.{HeldEntry}
+use Rattle.flat_tables.specs.declared.held_entry.HeldEntry.TheVariants.{Empty, Page, Follows}
+use Rattle.flat_tables.specs.declared.held_map.HeldMap.{HeldMap}
+use Rattle.flat_tables.specs.HeldMaps.{map_at, fork_at, held_entry, index_of, entry_of, AreHeld}
+use Rattle.flat_tables.specs.SlotTables.{Tables, plain_of, AreTables}
+use Rattle.flat_tables.specs.SlotTouches.{scene_of}
+use Rattle.flat_tables.proofs.ForkMaps.{index_fork, fork_within}
+use Rattle.flat_tables.proofs.LivingMaps.{entry_held, entry_gone}
 
 some_entry : (o : Option HeldEntry) (e : HeldEntry) → o ≡ Some e → IsSome o
 some_entry None e h = absurd (cc h)

@@ -29,30 +29,30 @@ use Rattle.page_contracts.specs.Stores.{StoreMeaning, IsSound, IsUsed, HomePlace
 use Rattle.plain_pages.proofs.Chains.{marked}
 use Rattle.plain_pages.proofs.Reading.{mark_there}
 use Rattle.plain_pages.proofs.ReferencesMade.{settled_makes, settled_stays}
-use Rattle.flat_pages.specs.declared.held_entry.EntryAt.{EntryAt}
-use Rattle.flat_pages.specs.declared.held_entry.HeldEntry.{HeldEntry}
-use Rattle.flat_pages.specs.declared.held_entry.HeldEntry.TheVariants.{Empty, Page, Follows}
-use Rattle.flat_pages.specs.declared.held_map.HeldMap.{HeldMap}
-use Rattle.flat_pages.specs.declared.map_tables.MapTables.{MapTables}
-use Rattle.flat_pages.specs.declared.chain_walk.Walk.{Walk}
-use Rattle.flat_pages.specs.HeldMaps.{fork_at, index_of, held_entry, with_entry, name_at, points_at, living_of}
-use Rattle.flat_pages.specs.Walks.{slot_of, walk}
-use Rattle.flat_pages.specs.SlotTables.{Tables, plain_of, files_held, share_of, AreTables, AreSized}
-use Rattle.flat_pages.specs.SlotTouches.{walk_of, scene_of, home_named, has_room, is_alone, touch_copy, touch_made, touch_walked, touch_of_place, allows, copy_of}
+use Rattle.flat_tables.specs.declared.held_entry.EntryAt.{EntryAt}
+use Rattle.flat_tables.specs.declared.held_entry.HeldEntry.{HeldEntry}
+use Rattle.flat_tables.specs.declared.held_entry.HeldEntry.TheVariants.{Empty, Page, Follows}
+use Rattle.flat_tables.specs.declared.held_map.HeldMap.{HeldMap}
+use Rattle.flat_tables.specs.declared.map_tables.MapTables.{MapTables}
+use Rattle.flat_tables.specs.declared.chain_walk.Walk.{Walk}
+use Rattle.flat_tables.specs.HeldMaps.{fork_at, index_of, held_entry, with_entry, name_at, points_at, living_of}
+use Rattle.flat_tables.specs.Walks.{slot_of, walk}
+use Rattle.flat_tables.specs.SlotTables.{Tables, plain_of, files_held, share_of, AreTables, AreSized}
+use Rattle.flat_tables.specs.SlotTouches.{walk_of, scene_of, home_named, has_room, is_alone, touch_copy, touch_made, touch_walked, touch_of_place, allows, copy_of}
 use Rattle.page_contracts.specs.Stores.{away_home, away_at}
-use Rattle.flat_pages.specs.Serials.{with_next}
-use Rattle.flat_pages.specs.TableSteps.{tables_of, next_name, home_taken, home_renamed}
-use Rattle.flat_pages.specs.SlotSteps.{TakesHome}
-use Rattle.flat_pages.proofs.HeldEntries.{total_le, points_self}
+use Rattle.flat_tables.specs.Serials.{with_next}
+use Rattle.flat_tables.specs.TableSteps.{tables_of, next_name, home_taken, home_renamed}
+use Rattle.flat_tables.specs.SlotSteps.{TakesHome}
+use Rattle.flat_tables.proofs.HeldEntries.{total_le, points_self}
 use Rattle.flat_pages.proofs.Walked.{IsCopy}
-use Rattle.flat_pages.proofs.Taking.{none_shared}
+use Rattle.flat_tables.proofs.Taking.{none_shared}
 use Rattle.flat_pages.proofs.Touching.{home_is, allowed_is, listed, blanks_none, blanks_some, copies_none, copied}
 use Rattle.flat_pages.proofs.Settling.{sized_of, fits_set, content_here, content_set, content_other, told_blank, told_copy}
-use Rattle.flat_pages.proofs.FiledHomes.{files_still}
+use Rattle.flat_tables.proofs.FiledHomes.{files_still}
 use Rattle.flat_pages.proofs.Told.{none_filed}
 use Rattle.flat_pages.proofs.Telling.{named_home}
 use Rattle.flat_pages.proofs.Rooming.{here_when}
-use Rattle.flat_pages.proofs.Making.{alone_share, home_under}
+use Rattle.flat_tables.proofs.Making.{alone_share, home_under}
 use Rattle.flat_pages.proofs.Meeting.{Stands, stands, Found, found_walk, home_taken_is, words_are, place_lives}
 use Rattle.flat_pages.proofs.SlotSetting.{set_forks, index_same, set_lives, set_living, slot_at}
 use Rattle.flat_pages.proofs.PageWalks.{marked_home, Copies, walk_filled, walk_copied}

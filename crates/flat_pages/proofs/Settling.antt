@@ -25,19 +25,19 @@ use Rattle.page_contracts.specs.Stores.{HomePlace, free, away, here, place, is_t
 use Rattle.plain_pages.specs.WholePages.{AreWhole}
 use Rattle.plain_pages.proofs.Made.{has_new, is_blank, is_copy}
 use Rattle.plain_pages.proofs.Settles.{copy_maps, copy_files}
-use Rattle.flat_pages.specs.declared.held_entry.EntryAt.{EntryAt}
-use Rattle.flat_pages.specs.declared.held_entry.HeldEntry.{HeldEntry}
-use Rattle.flat_pages.specs.declared.held_entry.HeldEntry.TheVariants.{Empty, Page}
-use Rattle.flat_pages.specs.declared.page_serials.PageSerials.{PageSerials}
-use Rattle.flat_pages.specs.Serials.{serial_of, with_next}
-use Rattle.flat_pages.specs.HeldMaps.{held_entry, with_entry, name_at, entry_of, maps_held, points_at}
-use Rattle.flat_pages.specs.Walks.{slot_of}
-use Rattle.flat_pages.specs.SlotTables.{Tables, plain_of, files_held, share_of, AreTables, AreSized}
-use Rattle.flat_pages.specs.TableSteps.{next_name}
-use Rattle.flat_pages.proofs.LivingMaps.{entry_held}
+use Rattle.flat_tables.specs.declared.held_entry.EntryAt.{EntryAt}
+use Rattle.flat_tables.specs.declared.held_entry.HeldEntry.{HeldEntry}
+use Rattle.flat_tables.specs.declared.held_entry.HeldEntry.TheVariants.{Empty, Page}
+use Rattle.flat_tables.specs.declared.page_serials.PageSerials.{PageSerials}
+use Rattle.flat_tables.specs.Serials.{serial_of, with_next}
+use Rattle.flat_tables.specs.HeldMaps.{held_entry, with_entry, name_at, entry_of, maps_held, points_at}
+use Rattle.flat_tables.specs.Walks.{slot_of}
+use Rattle.flat_tables.specs.SlotTables.{Tables, plain_of, files_held, share_of, AreTables, AreSized}
+use Rattle.flat_tables.specs.TableSteps.{next_name}
+use Rattle.flat_tables.proofs.LivingMaps.{entry_held}
 use Rattle.flat_pages.proofs.Agreement.{tables_whole}
 use Rattle.flat_pages.proofs.Told.{maps_set, none_else, none_filed, entry_still, told_made}
-use Rattle.flat_pages.proofs.FiledHomes.{files_still}
+use Rattle.flat_tables.proofs.FiledHomes.{files_still}
 
 -- the words of a page that is in a frame
 pub content_here : (places : List HomePlace) (d : DrumWords) (h : ℕ) (words : List ℕ) → place places h ≡ here words → content places d h ≡ Some words

@@ -14,7 +14,7 @@ use Rattle.std.specs.FinMap as fin
 use Rattle.machine_names.specs.declared.names.FileNo.{FileNo}
 use Rattle.machine_names.specs.Orders.{file_page}
 use Rattle.page_homes.specs.declared.homes.Home.{Home}
-use Rattle.flat_pages.proofs.FiledHomes.{get_filed}
+use Rattle.flat_tables.proofs.FiledHomes.{get_filed}
 use Rattle.plain_pages.specs.declared.map.NewEntry.{NewEntry}
 use Rattle.plain_pages.specs.declared.map.NewEntry.TheVariants as new_entry
 use Rattle.page_contracts.specs.DrumWords.{DrumWords}
@@ -24,22 +24,22 @@ use Rattle.plain_pages.specs.References.{with_entry as entry_put}
 use Rattle.page_contracts.specs.Pages.{is_entry}
 use Rattle.plain_pages.specs.NewEntries.{entry_to, changed}
 use Rattle.page_contracts.specs.Stores.{StoreMeaning, FitsHomes}
-use Rattle.flat_pages.specs.declared.held_entry.EntryAt.{EntryAt}
-use Rattle.flat_pages.specs.declared.held_entry.HeldEntry.{HeldEntry}
-use Rattle.flat_pages.specs.declared.held_entry.HeldEntry.TheVariants.{Empty, Page, Follows}
-use Rattle.flat_pages.specs.declared.held_entry.Link.{Link}
-use Rattle.flat_pages.specs.declared.held_map.HeldMap.{HeldMap}
-use Rattle.flat_pages.specs.declared.map_tables.MapTables.{MapTables}
-use Rattle.flat_pages.specs.HeldMaps.{AreHeld, fork_at, held_entry, with_entry, index_of, is_map_of, one_later, living_of, entry_of, name_of}
-use Rattle.flat_pages.specs.Walks.{slot_of}
-use Rattle.flat_pages.specs.SlotTables.{Tables, plain_of}
+use Rattle.flat_tables.specs.declared.held_entry.EntryAt.{EntryAt}
+use Rattle.flat_tables.specs.declared.held_entry.HeldEntry.{HeldEntry}
+use Rattle.flat_tables.specs.declared.held_entry.HeldEntry.TheVariants.{Empty, Page, Follows}
+use Rattle.flat_tables.specs.declared.held_entry.Link.{Link}
+use Rattle.flat_tables.specs.declared.held_map.HeldMap.{HeldMap}
+use Rattle.flat_tables.specs.declared.map_tables.MapTables.{MapTables}
+use Rattle.flat_tables.specs.HeldMaps.{AreHeld, fork_at, held_entry, with_entry, index_of, is_map_of, one_later, living_of, entry_of, name_of}
+use Rattle.flat_tables.specs.Walks.{slot_of}
+use Rattle.flat_tables.specs.SlotTables.{Tables, plain_of}
 use Rattle.flat_pages.specs.SlotMeaning.{seen_in, seen_entry}
-use Rattle.flat_pages.specs.SlotSteps.{SetsEntry, narrow_held}
-use Rattle.flat_pages.specs.TableSteps.{tables_of}
-use Rattle.flat_pages.proofs.HeldEntries.{fork_set, maps_length}
-use Rattle.flat_pages.proofs.ForkMaps.{index_fork}
-use Rattle.flat_pages.proofs.LivingMaps.{entry_held}
-use Rattle.flat_pages.proofs.WalkSteps.{some_fork}
+use Rattle.flat_tables.specs.SlotSteps.{SetsEntry, narrow_held}
+use Rattle.flat_tables.specs.TableSteps.{tables_of}
+use Rattle.flat_tables.proofs.HeldEntries.{fork_set, maps_length}
+use Rattle.flat_tables.proofs.ForkMaps.{index_fork}
+use Rattle.flat_tables.proofs.LivingMaps.{entry_held}
+use Rattle.flat_tables.proofs.WalkSteps.{some_fork}
 
 -- maps of the same forks
 pub record SameForks (xs ys : List HeldMap) : Type 0 where

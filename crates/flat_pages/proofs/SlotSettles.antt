@@ -1,5 +1,5 @@
 -- What settling the page of a slot leaves, in one record for each way.
-use Rattle.std.proofs.Common.{◌≡◌, ◌≢◌, ◌⊎◌, inl, inr, ℕ, ◌+◌, ◌≤◌, List, Bool, true, false, None, Some, refl, sym, ◌∙◌, ap, arith, is_some}
+use Rattle.std.proofs.Common.{◌≡◌, ◌≢◌, ◌⊎◌, inl, inr, ℕ, ◌+◌, ◌≤◌, List, Bool, true, false, None, Some, refl, sym, ◌∙◌, ap, arith}
 use Rattle.std.specs.Prelude.{slice_set}
 use Rattle.std.proofs.lemmas.List.{get_or-set_other}
 use Rattle.machine_names.specs.Bounds.{IsOwner}
@@ -18,19 +18,19 @@ use Rattle.page_contracts.specs.Changes.{PageSettled}
 use Rattle.page_contracts.specs.Pages.{PagesMeaning, StandsAt}
 use Rattle.page_contracts.specs.Stores.{StoreMeaning, HomePlace, IsSound, IsUsed, Loses, RenewsOne, free, here, is_here, place, traffic}
 use Rattle.page_contracts.proofs.Losing.{loses_made, loses_used, made_one, used_one}
-use Rattle.flat_pages.specs.declared.chain_walk.Walk.{Walk}
-use Rattle.flat_pages.specs.declared.held_entry.EntryAt.{EntryAt}
-use Rattle.flat_pages.specs.declared.held_entry.HeldEntry.{HeldEntry}
-use Rattle.flat_pages.specs.declared.held_entry.HeldEntry.TheVariants.{Page}
-use Rattle.flat_pages.specs.declared.map_tables.MapTables.{MapTables}
-use Rattle.flat_pages.specs.HeldMaps.{held_entry, name_at, with_entry}
-use Rattle.flat_pages.specs.Serials.{serial_of, with_next}
+use Rattle.flat_tables.specs.declared.chain_walk.Walk.{Walk}
+use Rattle.flat_tables.specs.declared.held_entry.EntryAt.{EntryAt}
+use Rattle.flat_tables.specs.declared.held_entry.HeldEntry.{HeldEntry}
+use Rattle.flat_tables.specs.declared.held_entry.HeldEntry.TheVariants.{Page}
+use Rattle.flat_tables.specs.declared.map_tables.MapTables.{MapTables}
+use Rattle.flat_tables.specs.HeldMaps.{held_entry, name_at, with_entry}
+use Rattle.flat_tables.specs.Serials.{serial_of, with_next}
 use Rattle.flat_pages.specs.SlotMeaning.{slots_meaning}
-use Rattle.flat_pages.specs.SlotSteps.{TakesHome}
-use Rattle.flat_pages.specs.SlotTables.{Tables, AreTables}
-use Rattle.flat_pages.specs.SlotTouches.{copy_of, is_alone, touch_of_place, walk_of}
-use Rattle.flat_pages.specs.TableSteps.{home_renamed, next_name, tables_of}
-use Rattle.flat_pages.proofs.NextSerials.{next_other, next_own}
+use Rattle.flat_tables.specs.SlotSteps.{TakesHome}
+use Rattle.flat_tables.specs.SlotTables.{Tables, AreTables}
+use Rattle.flat_tables.specs.SlotTouches.{copy_of, is_alone, touch_of_place, walk_of}
+use Rattle.flat_tables.specs.TableSteps.{home_renamed, next_name, tables_of}
+use Rattle.flat_tables.proofs.NextSerials.{next_other, next_own}
 use Rattle.flat_pages.proofs.Settled.{Announced, CanCopy, EndsAt, Settles, alone_stored, can_copy, copy_ends, copy_here, copy_stored, home_here, ready_away, used_stored, zero_ends, zero_stored}
 use Rattle.flat_pages.proofs.Using.{fork_filed, made_here, settles_there, stands_nowhere, used_at, used_here, uses_there}
 

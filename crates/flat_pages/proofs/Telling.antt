@@ -16,15 +16,15 @@ use Rattle.page_contracts.specs.DrumWords.{DrumWords}
 use Rattle.page_contracts.specs.Stores.{HomePlace, free, away, here, place, is_taken, over_drum, content}
 use Rattle.page_contracts.proofs.HomeCounts.{taken_or_free}
 use Rattle.plain_pages.proofs.Counts.{Same, page_tells}
-use Rattle.flat_pages.specs.declared.held_map.HeldMap.{HeldMap}
-use Rattle.flat_pages.specs.HeldMaps.{fork_at, name_at, name_of, nobody, one_later, living_of}
-use Rattle.flat_pages.specs.SlotTables.{Tables, plain_of, AreTables, AreSized}
-use Rattle.flat_pages.specs.SlotTouches.{home_named, scene_of}
+use Rattle.flat_tables.specs.declared.held_map.HeldMap.{HeldMap}
+use Rattle.flat_tables.specs.HeldMaps.{fork_at, name_at, name_of, nobody, one_later, living_of}
+use Rattle.flat_tables.specs.SlotTables.{Tables, plain_of, AreTables, AreSized}
+use Rattle.flat_tables.specs.SlotTouches.{home_named, scene_of}
 use Rattle.page_contracts.specs.Stores.{away_home, away_at}
 use Rattle.flat_pages.specs.SlotMeaning.{AreTold, filed_in}
-use Rattle.flat_pages.proofs.FiledHomes.{get_filed}
-use Rattle.flat_pages.proofs.ForkMaps.{searched}
-use Rattle.flat_pages.proofs.LivingMaps.{lives_held}
+use Rattle.flat_tables.proofs.FiledHomes.{get_filed}
+use Rattle.flat_tables.proofs.ForkMaps.{searched}
+use Rattle.flat_tables.proofs.LivingMaps.{lives_held}
 use Rattle.flat_pages.proofs.Agreement.{Housed, housed, filed_named, tables_whole, tables_live, tables_objects, object_home, object_gone, object_some}
 use Rattle.flat_pages.proofs.Touching.{home_is as home_found}
 use Rattle.flat_pages.proofs.Settling.{sized_of}

@@ -21,15 +21,15 @@ use Rattle.page_contracts.specs.Stores.{content}
 use Rattle.plain_pages.proofs.Kept.{same_pages}
 use Rattle.plain_pages.proofs.Made.{HasNew}
 use Rattle.plain_pages.proofs.Whole.{map_uses, tally, uses_are}
-use Rattle.flat_pages.specs.declared.held_entry.EntryAt.{EntryAt}
-use Rattle.flat_pages.specs.declared.held_entry.HeldEntry.{HeldEntry}
-use Rattle.flat_pages.specs.declared.held_entry.HeldEntry.TheVariants.{Empty, Page, Follows}
-use Rattle.flat_pages.specs.declared.held_map.HeldMap.{HeldMap}
-use Rattle.flat_pages.specs.HeldMaps.{map_at, fork_at, held_entry, with_entry, name_at, entry_of, entries_of, maps_held, points_at, AreHeld}
-use Rattle.flat_pages.specs.Walks.{slot_of}
-use Rattle.flat_pages.specs.SlotTables.{Tables, plain_of, share_of, filed_total, AreTables, AreSized}
-use Rattle.flat_pages.proofs.HeldEntries.{held_within, map_set_same, map_set_other, fork_set, entry_other, total_with, total_le, points_here}
-use Rattle.flat_pages.proofs.LivingMaps.{get_living, maps_changed}
+use Rattle.flat_tables.specs.declared.held_entry.EntryAt.{EntryAt}
+use Rattle.flat_tables.specs.declared.held_entry.HeldEntry.{HeldEntry}
+use Rattle.flat_tables.specs.declared.held_entry.HeldEntry.TheVariants.{Empty, Page, Follows}
+use Rattle.flat_tables.specs.declared.held_map.HeldMap.{HeldMap}
+use Rattle.flat_tables.specs.HeldMaps.{map_at, fork_at, held_entry, with_entry, name_at, entry_of, entries_of, maps_held, points_at, AreHeld}
+use Rattle.flat_tables.specs.Walks.{slot_of}
+use Rattle.flat_tables.specs.SlotTables.{Tables, plain_of, share_of, filed_total, AreTables, AreSized}
+use Rattle.flat_tables.proofs.HeldEntries.{held_within, map_set_same, map_set_other, fork_set, entry_other, total_with, total_le, points_here}
+use Rattle.flat_tables.proofs.LivingMaps.{get_living, maps_changed}
 use Rattle.flat_pages.proofs.Agreement.{Housed, housed, uses_home, uses_none, object_home, object_gone, tables_whole}
 
 pub map_same : {A B : Type 0} (f g : A → B) (xs : List A) → ((i : ℕ) (x : A) → slice_get xs i ≡ Some x → f x ≡ g x) → map f xs ≡ map g xs

@@ -30,16 +30,16 @@ use Rattle.plain_pages.proofs.Made.{IsMade, is_blank}
 use Rattle.page_contracts.proofs.Rooms.{room_blank, room_copy, live_blank}
 use Rattle.plain_pages.proofs.Settles.{makings_can}
 use Rattle.plain_pages.proofs.ReferencesMade.{reference_makes, reference_denied, make_first}
-use Rattle.flat_pages.specs.declared.held_entry.EntryAt.{EntryAt}
-use Rattle.flat_pages.specs.declared.held_entry.HeldEntry.{HeldEntry}
-use Rattle.flat_pages.specs.declared.held_entry.HeldEntry.TheVariants.{Empty, Page, Follows}
-use Rattle.flat_pages.specs.declared.chain_walk.Walk.{Walk}
-use Rattle.flat_pages.specs.HeldMaps.{held_entry, name_at, nobody, name_of, entry_of, one_later}
-use Rattle.flat_pages.specs.Walks.{slot_of, walk}
-use Rattle.flat_pages.specs.SlotTables.{Tables, plain_of, AreTables, AreSized}
-use Rattle.flat_pages.specs.SlotTouches.{home_named, scene_of, has_room, allows, copy_of, is_alone, touch_copy, touch_made, touch_walked}
+use Rattle.flat_tables.specs.declared.held_entry.EntryAt.{EntryAt}
+use Rattle.flat_tables.specs.declared.held_entry.HeldEntry.{HeldEntry}
+use Rattle.flat_tables.specs.declared.held_entry.HeldEntry.TheVariants.{Empty, Page, Follows}
+use Rattle.flat_tables.specs.declared.chain_walk.Walk.{Walk}
+use Rattle.flat_tables.specs.HeldMaps.{held_entry, name_at, nobody, name_of, entry_of, one_later}
+use Rattle.flat_tables.specs.Walks.{slot_of, walk}
+use Rattle.flat_tables.specs.SlotTables.{Tables, plain_of, AreTables, AreSized}
+use Rattle.flat_tables.specs.SlotTouches.{home_named, scene_of, has_room, allows, copy_of, is_alone, touch_copy, touch_made, touch_walked}
 use Rattle.page_contracts.specs.Stores.{away_at}
-use Rattle.flat_pages.proofs.LivingMaps.{entry_held}
+use Rattle.flat_tables.proofs.LivingMaps.{entry_held}
 use Rattle.flat_pages.proofs.Agreement.{entry_named, uses_home, tables_whole, tables_live}
 use Rattle.flat_pages.proofs.Walked.{IsCopy, Meets, WalkIs, walked}
 

@@ -12,16 +12,16 @@ use Rattle.machine_names.specs.declared.names.Tty.{Tty}
 use Rattle.plain_pages.specs.declared.map.MapEntry.{MapEntry}
 use Rattle.plain_pages.specs.Maps.{Entries, Link as ChainLink, Chain, entry_at, followed, full_access, single_link, behind, chain_from, chain_within, chain, permit_write}
 use Rattle.plain_pages.proofs.Chains.{marked}
-use Rattle.flat_pages.specs.declared.held_entry.EntryAt.{EntryAt}
-use Rattle.flat_pages.specs.declared.held_entry.HeldEntry.{HeldEntry}
-use Rattle.flat_pages.specs.declared.held_entry.HeldEntry.TheVariants.{Empty, Page, Follows}
-use Rattle.flat_pages.specs.declared.held_entry.Link.{Link}
-use Rattle.flat_pages.specs.declared.held_map.HeldMap.{HeldMap}
-use Rattle.flat_pages.specs.declared.chain_walk.Walk.{Walk}
-use Rattle.flat_pages.specs.HeldMaps.{fork_at, held_entry, index_of, entry_of, name_of, maps_held, AreHeld}
-use Rattle.flat_pages.specs.Walks.{slot_of, terminal_of, next_at, walk_end, walk_behind, walk_from, walk_within, walk}
-use Rattle.flat_pages.proofs.LivingMaps.{entry_held, entry_gone}
-use Rattle.flat_pages.proofs.WalkSteps.{next_there}
+use Rattle.flat_tables.specs.declared.held_entry.EntryAt.{EntryAt}
+use Rattle.flat_tables.specs.declared.held_entry.HeldEntry.{HeldEntry}
+use Rattle.flat_tables.specs.declared.held_entry.HeldEntry.TheVariants.{Empty, Page, Follows}
+use Rattle.flat_tables.specs.declared.held_entry.Link.{Link}
+use Rattle.flat_tables.specs.declared.held_map.HeldMap.{HeldMap}
+use Rattle.flat_tables.specs.declared.chain_walk.Walk.{Walk}
+use Rattle.flat_tables.specs.HeldMaps.{fork_at, held_entry, index_of, entry_of, name_of, maps_held, AreHeld}
+use Rattle.flat_tables.specs.Walks.{slot_of, terminal_of, next_at, walk_end, walk_behind, walk_from, walk_within, walk}
+use Rattle.flat_tables.proofs.LivingMaps.{entry_held, entry_gone}
+use Rattle.flat_tables.proofs.WalkSteps.{next_there}
 
 -- where the first link with the copy mark stands
 abbrev pub IsCopy : List HeldMap → Option EntryAt → Option ChainLink → Type 0

@@ -9,14 +9,14 @@ use Rattle.plain_pages.specs.Room.{uses}
 use Rattle.page_contracts.specs.Pages.{StaysInCore}
 use Rattle.machine_names.specs.Orders.{same_fork}
 use Rattle.page_contracts.specs.Stores.{StoreMeaning, FitsHomes, Loses, RenewsNone, traffic}
-use Rattle.flat_pages.specs.declared.held_entry.HeldEntry.TheVariants.{Empty}
-use Rattle.flat_pages.specs.declared.held_map.HeldMap.{HeldMap}
-use Rattle.flat_pages.specs.declared.map_tables.MapTables.{MapTables}
-use Rattle.flat_pages.specs.HeldMaps.{fork_at, held_entry}
-use Rattle.flat_pages.specs.SlotTables.{plain_of, files_held}
-use Rattle.flat_pages.specs.SlotTouches.{scene_of}
-use Rattle.flat_pages.specs.TableSteps.{tables_of}
-use Rattle.flat_pages.specs.SlotSteps.{HomeStays, NamesHome}
+use Rattle.flat_tables.specs.declared.held_entry.HeldEntry.TheVariants.{Empty}
+use Rattle.flat_tables.specs.declared.held_map.HeldMap.{HeldMap}
+use Rattle.flat_tables.specs.declared.map_tables.MapTables.{MapTables}
+use Rattle.flat_tables.specs.HeldMaps.{fork_at, held_entry}
+use Rattle.flat_tables.specs.SlotTables.{plain_of, files_held}
+use Rattle.flat_tables.specs.SlotTouches.{scene_of}
+use Rattle.flat_tables.specs.TableSteps.{tables_of}
+use Rattle.flat_tables.specs.SlotSteps.{HomeStays, NamesHome}
 
 -- pages of which one fork's map alone names fewer: those that are still named are there with their words
 pub record AreFewer (p q : NumberedPages) (f : ForkName) : Type 0 where

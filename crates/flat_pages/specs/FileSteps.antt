@@ -14,15 +14,15 @@ use Rattle.plain_pages.specs.PlainPages.{NumberedPages}
 use Rattle.plain_pages.specs.FilePages.{with_file}
 use Rattle.plain_pages.specs.Room.{uses}
 use Rattle.std.specs.Option.{option_map}
-use Rattle.flat_pages.specs.declared.held_entry.EntryAt.{EntryAt}
-use Rattle.flat_pages.specs.declared.held_map.HeldMap.{HeldMap}
-use Rattle.flat_pages.specs.declared.map_tables.MapTables.{MapTables}
-use Rattle.flat_pages.specs.HeldMaps.{name_of}
-use Rattle.flat_pages.specs.SlotTables.{plain_of}
+use Rattle.flat_tables.specs.declared.held_entry.EntryAt.{EntryAt}
+use Rattle.flat_tables.specs.declared.held_map.HeldMap.{HeldMap}
+use Rattle.flat_tables.specs.declared.map_tables.MapTables.{MapTables}
+use Rattle.flat_tables.specs.HeldMaps.{name_of}
+use Rattle.flat_tables.specs.SlotTables.{plain_of}
 use Rattle.flat_pages.specs.SlotMeaning.{filed_in}
-use Rattle.flat_pages.specs.SlotTouches.{scene_of}
-use Rattle.flat_pages.specs.SlotSteps.{HomeStays, NamesHome}
-use Rattle.flat_pages.specs.TableSteps.{tables_of, home_filed}
+use Rattle.flat_tables.specs.SlotTouches.{scene_of}
+use Rattle.flat_tables.specs.SlotSteps.{HomeStays, NamesHome}
+use Rattle.flat_tables.specs.TableSteps.{tables_of, home_filed}
 
 -- a free home was taken, for a new page of an owner that a file names now
 pub record FilesHome {S : Type 0} (store : StoreMeaning S) (old new : S) (tables tables' : MapTables) (f : FilePage ℕ) (owner : Tty) : Type 0 where

@@ -1,15 +1,6 @@
-pub mod Serials
-pub mod HeldMaps
 pub mod StoredPages
 pub mod StoredLists
 pub mod StoreMeaning
-pub mod Walks
-pub mod Looks
-pub mod MapNumbers
-pub mod SlotTables
-pub mod SlotTouches
-pub mod TableSteps
-pub mod SlotSteps
 pub mod SlotMeaning
 pub mod Emptying
 pub mod FileSteps

@@ -17,12 +17,12 @@ use Rattle.plain_pages.specs.Room.{live}
 use Rattle.plain_pages.specs.WholePages.{AreWhole}
 use Rattle.page_contracts.specs.Stores.{StoreMeaning, content, IsSound, CanLeave, IsNext, AllStay, FitsHomes, HomePlace, away, away_of, is_taken, place}
 use Rattle.page_contracts.specs.Pages.{PagesMeaning, Agrees, AreHoused, Housed, a_map, a_page, home_for}
-use Rattle.flat_pages.specs.declared.held_entry.HeldEntry.{HeldEntry}
-use Rattle.flat_pages.specs.Serials.{serial_of}
-use Rattle.flat_pages.specs.HeldMaps.{index_of, held_entry, entry_of, living_of, maps_held}
-use Rattle.flat_pages.specs.Walks.{walk}
-use Rattle.flat_pages.specs.SlotTables.{Tables, plain_of, files_held}
-use Rattle.flat_pages.specs.SlotTouches.{home_named, scene_of, touch_of_place}
+use Rattle.flat_tables.specs.declared.held_entry.HeldEntry.{HeldEntry}
+use Rattle.flat_tables.specs.Serials.{serial_of}
+use Rattle.flat_tables.specs.HeldMaps.{index_of, held_entry, entry_of, living_of, maps_held}
+use Rattle.flat_tables.specs.Walks.{walk}
+use Rattle.flat_tables.specs.SlotTables.{Tables, plain_of, files_held}
+use Rattle.flat_tables.specs.SlotTouches.{home_named, scene_of, touch_of_place}
 
 -- an entry as a look at it finds it; its map is always in memory
 abbrev pub seen_entry : Tables → Option HeldEntry → Seen

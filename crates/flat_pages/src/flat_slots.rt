@@ -1,13 +1,11 @@
 // Maps in memory over a store.
-ghost use Rattle.flat_pages.specs.SlotTables.{AreTables};
-ghost use Rattle.flat_pages.specs.TableSteps.{tables_of};
+ghost use Rattle.flat_tables.specs.SlotTables.{AreTables};
+ghost use Rattle.flat_tables.specs.TableSteps.{tables_of};
 ghost use Rattle.flat_pages.specs.SlotMeaning.{AreTold};
 
-use crate::chain_walk::{FULL_ACCESS, Use};
-use crate::held_entry::{EntryAt, HeldEntry, Link};
-use crate::held_map::free_map_of;
-use crate::map_tables::MapTables;
-use crate::page_serials::PageSerials;
+use flat_tables::{
+    EntryAt, FULL_ACCESS, HeldEntry, Link, MapTables, PageSerials, Use, free_map_of,
+};
 use machine_names::{
     Access, FILE_PAGES, FileNo, ForkName, Kind, PAGE_ADDRESSES, PageName, Place, SPACE_PAGES, Slot,
     Tty,
@@ -68,9 +66,9 @@ impl<S: Store> FlatSlots<S> {
     ghost use Rattle.page_contracts.specs.Pages.{framed};
     ghost use Rattle.page_contracts.specs.Stores.{place, is_taken};
     ghost use Rattle.page_contracts.specs.Pages.{absent_or};
-    ghost use Rattle.flat_pages.specs.declared.held_entry.EntryAt.{EntryAt as AnEntry};
-    ghost use Rattle.flat_pages.specs.HeldMaps.{held_entry};
-    ghost use Rattle.flat_pages.specs.SlotTouches.{scene_of, has_room, is_alone, touch_copy, touch_filed, touch_made};
+    ghost use Rattle.flat_tables.specs.declared.held_entry.EntryAt.{EntryAt as AnEntry};
+    ghost use Rattle.flat_tables.specs.HeldMaps.{held_entry};
+    ghost use Rattle.flat_tables.specs.SlotTouches.{scene_of, has_room, is_alone, touch_copy, touch_filed, touch_made};
     ghost use Rattle.page_contracts.specs.Stores.{away_at};
 
     // What a touch answers where a zero page has to be made, and so many pages in all.
@@ -161,13 +159,13 @@ impl<S: Store> FlatSlots<S> {
     ghost use Rattle.machine_names.specs.Orders.{file_page};
     ghost use Rattle.machine_names.specs.PageWords.{zero_words};
     ghost use Rattle.page_contracts.specs.Stores.{IsUsed, here, is_here, place};
-    ghost use Rattle.flat_pages.specs.declared.held_entry.HeldEntry.TheVariants as entry;
-    ghost use Rattle.flat_pages.specs.Serials.{serial_of};
-    ghost use Rattle.flat_pages.specs.HeldMaps.{fork_at, held_entry};
-    ghost use Rattle.flat_pages.specs.SlotTouches.{has_room, is_alone};
-    ghost use Rattle.flat_pages.specs.TableSteps.{home_renamed};
+    ghost use Rattle.flat_tables.specs.declared.held_entry.HeldEntry.TheVariants as entry;
+    ghost use Rattle.flat_tables.specs.Serials.{serial_of};
+    ghost use Rattle.flat_tables.specs.HeldMaps.{fork_at, held_entry};
+    ghost use Rattle.flat_tables.specs.SlotTouches.{has_room, is_alone};
+    ghost use Rattle.flat_tables.specs.TableSteps.{home_renamed};
     ghost use Rattle.page_homes.specs.declared.homes.Home.{Home as AHome};
-    ghost use Rattle.flat_pages.specs.SlotSteps.{TakesHome};
+    ghost use Rattle.flat_tables.specs.SlotSteps.{TakesHome};
     ghost use Rattle.flat_pages.specs.FileSteps.{FilesHome, SettlesFiled};
 
     // A zero page in a home of its own, for an empty entry.
@@ -254,22 +252,22 @@ impl<S: Store> FlatSlots<S> {
     ghost use Rattle.machine_names.specs.Bounds.{IsFilePage};
     ghost use Rattle.machine_names.specs.declared.names.TheConstants.{MOST_FILES};
     ghost use Rattle.machine_names.specs.Orders.{file_page};
-    ghost use Rattle.flat_pages.specs.HeldMaps.{name_at};
-    ghost use Rattle.flat_pages.specs.SlotTables.{share_of};
+    ghost use Rattle.flat_tables.specs.HeldMaps.{name_at};
+    ghost use Rattle.flat_tables.specs.SlotTables.{share_of};
     ghost use Rattle.flat_pages.specs.FileSteps.{EmptiesFile, HasHome, IsNamed, SetsFile};
     ghost use Rattle.machine_names.specs.declared.names.Access.{Access as AnAccess};
     ghost use Rattle.page_contracts.specs.Stores.{IsFreed};
-    ghost use Rattle.flat_pages.specs.declared.held_entry.HeldEntry.TheVariants as entry;
-    ghost use Rattle.flat_pages.specs.declared.held_entry.Link.{Link as ALink};
-    ghost use Rattle.flat_pages.specs.HeldMaps.{fork_at, held_entry, points_at};
+    ghost use Rattle.flat_tables.specs.declared.held_entry.HeldEntry.TheVariants as entry;
+    ghost use Rattle.flat_tables.specs.declared.held_entry.Link.{Link as ALink};
+    ghost use Rattle.flat_tables.specs.HeldMaps.{fork_at, held_entry, points_at};
     ghost use Rattle.std.specs.Prelude.{is_some};
     ghost use Rattle.page_contracts.specs.Pages.{IsPlace};
-    ghost use Rattle.flat_pages.specs.HeldMaps.{index_of};
-    ghost use Rattle.flat_pages.specs.SlotTouches.{home_at, is_alone};
-    ghost use Rattle.flat_pages.specs.TableSteps.{home_freed};
-    ghost use Rattle.flat_pages.specs.SlotSteps.{SetsEntry};
+    ghost use Rattle.flat_tables.specs.HeldMaps.{index_of};
+    ghost use Rattle.flat_tables.specs.SlotTouches.{home_at, is_alone};
+    ghost use Rattle.flat_tables.specs.TableSteps.{home_freed};
+    ghost use Rattle.flat_tables.specs.SlotSteps.{SetsEntry};
     ghost use Rattle.flat_pages.specs.Emptying.{EmptiesMap};
-    ghost use Rattle.flat_pages.specs.Walks.{ready_home, walk};
+    ghost use Rattle.flat_tables.specs.Walks.{ready_home, walk};
 
     // An entry becomes one of no page, in the place of one that alone named the page of a home.
     fn drop_page(&mut self, at: EntryAt, home: Home, old: Access, new: HeldEntry)

@@ -1,5 +1,5 @@
 -- The lists follow one job behind the other.
-use Rattle.std.proofs.Common.{◌≡◌, ℕ, ◌+◌, ◌<◌, ◌≤◌, Bool, true, false, [], IsSome, refl, sym, ◌∙◌, subst, inl, inr, arith}
+use Rattle.std.proofs.Common.{◌≡◌, ℕ, ◌+◌, ◌<◌, ◌≤◌, Bool, true, false, IsSome, refl, sym, ◌∙◌, ap, subst, inl, inr, arith}
 use Rattle.std.proofs.lemmas.Bool.{cases_eq, cases_lt}
 use Rattle.std.specs.FinMap as map
 use Rattle.machine_names.specs.declared.names.ForkName.{ForkName}
@@ -9,11 +9,14 @@ use Rattle.plain_model.specs.Forks.{ForkMap, IsRunnable, runs_in}
 use Rattle.fork_tree.specs.Trees.{AreSlotted}
 use Rattle.fork_tree.proofs.Slots.{held_lives, some_of}
 use Rattle.job_sched.specs.Lines.{is_in_line}
-use Rattle.job_sched.specs.Schedules.{stands}
-use Rattle.job_sched.specs.Ties.{IsFilled, IsSound}
+use Rattle.job_sched.specs.Schedules.{Schedule, size, stands}
+use Rattle.job_sched.specs.Ties.{IsFilled, IsSound, WaitsLess}
+use Rattle.job_sched.proofs.Waits.{less_same, less_then}
 use Rattle.fork_lists.specs.declared.lists.ForkLists.{ForkLists}
-use Rattle.fork_lists.specs.Seeing.{job_slots, seen_in, was_seen}
+use Rattle.fork_lists.specs.Following.{followed, followed_all}
+use Rattle.fork_lists.specs.Seeing.{all_jobs, job_slots, seen_in, was_seen}
 use Rattle.fork_lists.specs.Ties.{CanFollow, CanFollowAll, ComesOn, Follows, FollowsAll, IsTiedAt, Living}
+use Rattle.fork_lists.proofs.Alike.{every_job, followed_same, jobs_from, one_job}
 use Rattle.fork_lists.proofs.Nearing.{on_still, on_then}
 use Rattle.fork_lists.proofs.Tied.{runs_lives, same_seen, some_is}
 
@@ -24,8 +27,10 @@ pub record FollowedTo (forks : ForkMap) (old now : ForkLists) (n : ℕ) : Type 0
   pub seen : (t : Tty) (slot : ℕ) → n ≤ t.0 → 1 ≤ slot → slot ≤ MOST_FORKS → seen_in now.seen.items t slot ≡ seen_in old.seen.items t slot
   pub living : Living forks now.sched
   pub filled : IsFilled old.sched → IsFilled now.sched
-  pub calm : old.sched.waiting ≡ [] → now.sched.waiting ≡ []
+  pub waits : WaitsLess old.sched.waiting now.sched.waiting
+  pub set : size now.sched ≡ size old.sched
   pub comes_on : (f : ForkName) → IsRunnable forks f → is_in_line f old.sched ≡ true → ComesOn f old.sched now.sched
+  pub schedule : followed_all forks old.seen.items now.sched (jobs_from n) ≡ followed_all forks old.seen.items old.sched all_jobs
 
 module _ (forks : ForkMap) (old : ForkLists) where
   pub none_done : IsSound old.sched → Living forks old.sched → FollowedTo forks old old 0
@@ -35,8 +40,10 @@ module _ (forks : ForkMap) (old : ForkLists) where
     seen = λ t slot high first last. refl;
     living = living;
     filled = λ is. is;
-    calm = λ is. is;
+    waits = less_same old.sched.waiting;
+    set = refl;
     comes_on = λ f runs here. on_still f old.sched sound.timed here;
+    schedule = ap (followed_all forks old.seen.items old.sched) every_job;
   }
 
   pub can_each : (now : ForkLists) (n : ℕ) → n < TERMINALS → CanFollowAll forks old → FollowedTo forks old now n → CanFollow forks now (record { 0 = n })
@@ -49,9 +56,9 @@ module _ (forks : ForkMap) (old : ForkLists) where
     others = λ f other on. i.living f on;
   }
 
-  pub all_more : AreSlotted forks → (now next : ForkLists) (n : ℕ) → n < TERMINALS → FollowedTo forks old now n → Follows forks (record { 0 = n }) now next
+  pub all_more : AreSlotted forks → (now next : ForkLists) (n : ℕ) → n < TERMINALS → FollowedTo forks old now n → next.sched ≡ followed forks now.seen.items (record { 0 = n }) now.sched → Follows forks (record { 0 = n }) now next
       → ((f : ForkName) → IsRunnable forks f → is_in_line f now.sched ≡ true → ComesOn f now.sched next.sched) → FollowedTo forks old next (n + 1)
-  all_more slotted now next n low i more comes_on = record {
+  all_more slotted now next n low i sched more comes_on = record {
     tied = λ t below. elim (cases_eq t.0 n) [
       | inl here ↦ subst (IsTiedAt forks next) (sym (let job : t ≡ record { 0 = n } = λ k. record { 0 = here k } in job)) more.mine
       | inr other ↦
@@ -68,8 +75,12 @@ module _ (forks : ForkMap) (old : ForkLists) where
       | inr other ↦ i.living f (sym (more.listed f other) ∙ on)
     ];
     filled = λ is. more.filled (i.filled is);
-    calm = λ is. more.calm (i.calm is);
+    set = more.set ∙ i.set;
+    waits = less_then old.sched.waiting now.sched.waiting next.sched.waiting i.waits more.waits;
     comes_on = λ f runs here. let a = i.comes_on f runs here in on_then f old.sched now.sched next.sched a (comes_on f runs a.nears.here);
+    schedule =
+        ap (λ (s : Schedule). followed_all forks old.seen.items s (jobs_from (n + 1))) (sched ∙ followed_same forks (record { 0 = n }) now.seen.items old.seen.items now.sched (λ slot first last. i.seen (record { 0 = n }) slot (omega arith) first last))
+        ∙ sym (ap (followed_all forks old.seen.items now.sched) (one_job n low)) ∙ i.schedule;
   }
 
   -- a fork of no terminal neither lives nor stands
@@ -83,7 +94,8 @@ module _ (forks : ForkMap) (old : ForkLists) where
       }
     ];
     filled = i.filled;
-    calm = i.calm;
+    waits = i.waits;
+    set = i.set;
   }
     where
       none : (f : ForkName) → TERMINALS ≤ f.tty.0 → IsSome (map.get forks f) → ⊥

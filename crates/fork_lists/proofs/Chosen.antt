@@ -11,11 +11,13 @@ use Rattle.plain_model.specs.declared.fork.Fork.{Fork}
 use Rattle.plain_model.proofs.ForkMaps.{slot_tells}
 use Rattle.fork_lists.specs.Seeing.{place_at}
 use Rattle.job_sched.specs.declared.member.Member.{Member}
-use Rattle.job_sched.specs.Schedules.{Schedule, empty, stands}
+use Rattle.page_contracts.specs.declared.answers.Need.{Need}
+use Rattle.job_sched.specs.Schedules.{Schedule, arrived, empty, stands, waited}
 use Rattle.job_sched.specs.Ties.{AreListed, IsFilled, IsSound}
 use Rattle.job_sched.specs.Units.{row_ran}
 use Rattle.job_sched.proofs.Ties.{chosen_runs as head_runs, none_runs}
-use Rattle.job_sched.proofs.Units.{rows_filled, rows_listed, rows_waiting}
+use Rattle.job_sched.proofs.Ties.{arrived_listed, waits_filled, waits_listed}
+use Rattle.job_sched.proofs.Units.{rows_filled, rows_listed}
 use Rattle.fork_lists.specs.declared.seen.Seen.{Seen}
 use Rattle.fork_lists.specs.declared.lists.ForkLists.{ForkLists}
 use Rattle.fork_lists.specs.Seeing.{AreNamed, nobody, seen_in, seen_of}
@@ -48,9 +50,9 @@ none_ready [] is = refl
 none_ready (m ∷ ms) is = absurd (cc is)
 
 pub chosen_runs : (forks : ForkMap) (l : ForkLists) → AreTied forks l → IsSound l.sched → (o : Option ForkName) → o ≡ option_map (λ m. m.fork) (slice_get l.sched.ready 0)
-    → MatchOption o ((f : ForkName) → IsRunnable forks f → ⊥) (IsRunnable forks)
+    → MatchOption o (l.sched.waiting ≡ [] → (f : ForkName) → IsRunnable forks f → ⊥) (IsRunnable forks)
 chosen_runs forks l tied sound None head =
-    λ f runs. let no : true ≡ false = sym runs ∙ none_runs (runs_in forks) l.sched f (all_listed forks l tied) (test_filled l.sched tied.filled) sound.some (none_ready l.sched.ready head) tied.calm in cc no
+    λ calm f runs. let no : true ≡ false = sym runs ∙ none_runs (runs_in forks) l.sched f (all_listed forks l tied) (test_filled l.sched tied.filled) sound.some (none_ready l.sched.ready head) calm in cc no
 chosen_runs forks l tied sound (Some f) head = head_runs (runs_in forks) l.sched f (all_listed forks l tied) (sym head)
 
 -- a row of units leaves the same forks in the lists
@@ -63,8 +65,26 @@ ran_tied forks l m n tied ran seen =
         seen = λ slot low first last. ap (λ v. seen_in v.items t slot) seen ∙ (tied.each t).seen slot low first last;
       };
       filled = ap is_filled ran ∙ filled_test (row_ran n l.sched) (rows_filled l.sched n (test_filled l.sched tied.filled));
-      calm = ap (λ (s : Schedule). s.waiting) ran ∙ rows_waiting n l.sched ∙ tied.calm;
     }
+
+-- the same forks stand, and nobody more outside: so the lists are tied as they were
+pub stays_tied : (forks : ForkMap) (l m : ForkLists) (s : Schedule) → AreTied forks l → m.sched ≡ s → m.seen ≡ l.seen → (AreListed (runs_in forks) l.sched → AreListed (runs_in forks) s)
+    → (IsFilled l.sched → IsFilled s) → AreTied forks m
+stays_tied forks l m s tied is seen listed filled =
+    let all = listed (all_listed forks l tied) in
+    record {
+      each = λ t. record {
+        listed = λ f here. ap (stands f) is ∙ all.each f;
+        seen = λ slot low first last. ap (λ v. seen_in v.items t slot) seen ∙ (tied.each t).seen slot low first last;
+      };
+      filled = ap is_filled is ∙ filled_test s (filled (test_filled l.sched tied.filled));
+    }
+
+pub waited_tied : (forks : ForkMap) (l m : ForkLists) (need : Need) → AreTied forks l → m.sched ≡ waited l.sched need → m.seen ≡ l.seen → AreTied forks m
+waited_tied forks l m need tied is seen = stays_tied forks l m (waited l.sched need) tied is seen (waits_listed (runs_in forks) l.sched need) (waits_filled l.sched need)
+
+pub arrived_tied : (forks : ForkMap) (l m : ForkLists) (done : Need) → AreTied forks l → m.sched ≡ arrived l.sched done → m.seen ≡ l.seen → AreTied forks m
+arrived_tied forks l m done tied is seen = stays_tied forks l m (arrived l.sched done) tied is seen (arrived_listed (runs_in forks) l.sched done) (λ filled. filled)
 
 -- what was seen of no slot
 no_slots : (n k : ℕ) → slice_index_or (replicate n nobody) k nobody ≡ nobody
@@ -88,7 +108,6 @@ none_tied set n l sched seen = record {
     seen = λ slot low first last. ap (λ (xs : List Seen). seen_in xs t slot) seen ∙ no_slots n (place_at t slot) ∙ sym (ap seen_of (no_fork t slot));
   };
   filled = ap is_filled sched;
-  calm = ap (λ (s : Schedule). s.waiting) sched;
 }
 
 pub none_named : (n : ℕ) (seen : List Seen) → seen ≡ replicate n nobody → AreNamed seen

@@ -4,6 +4,7 @@ pub mod Tied
 pub mod Noted
 pub mod Chosen
 pub mod Followed
+pub mod Alike
 pub mod AllFollowed
 pub mod Beside
 pub mod MakerTied

@@ -1,5 +1,5 @@
 -- The lists are tied to the forks again once they have followed one that may have made another.
-use Rattle.std.proofs.Common.{◌≡◌, ◌≢◌, ◌⊎◌, ℕ, ◌<◌, ◌≤◌, Bool, true, false, Option, None, Some, refl, sym, ◌∙◌, ap, subst, inl, inr}
+use Rattle.std.proofs.Common.{◌≡◌, ◌≢◌, ◌⊎◌, ℕ, ◌<◌, ◌≤◌, true, false, Option, None, Some, refl, sym, ◌∙◌, ap, subst, inl, inr}
 use Rattle.std.proofs.lemmas.Bool.{cases_Bool, cases_eq}
 use Rattle.std.specs.FinMap as map
 use Rattle.machine_names.specs.Orders.{same_fork}
@@ -13,7 +13,9 @@ use Rattle.plain_model.proofs.ForkMaps.{cases_name, same_itself}
 use Rattle.fork_tree.specs.Making.{last_name}
 use Rattle.fork_tree.specs.Trees.{IsTree}
 use Rattle.fork_tree.proofs.Slots.{held_lives, in_found}
-use Rattle.job_sched.specs.Schedules.{Schedule, stands}
+use Rattle.job_sched.specs.Schedules.{Schedule, size, stands}
+use Rattle.job_sched.specs.Ties.{WaitsLess}
+use Rattle.job_sched.proofs.Waits.{less_then}
 use Rattle.fork_lists.specs.declared.lists.ForkLists.{ForkLists}
 use Rattle.fork_lists.specs.Following.{started_if, stopped_if}
 use Rattle.fork_lists.specs.Seeing.{SeenElsewhere, seen_in, seen_of}
@@ -21,7 +23,7 @@ use Rattle.fork_lists.specs.Ties.{AreTied, CanFollowMaker, Living, is_filled}
 use Rattle.fork_lists.proofs.Beside.{IsElsewhere, has_lived, in_as, runs_as}
 use Rattle.fork_lists.proofs.Chosen.{filled_test, test_filled}
 use Rattle.fork_lists.proofs.Folds.{start_filled, start_from, start_keeps, start_there, stop_filled, stop_gone, stop_less, stop_one}
-use Rattle.fork_lists.proofs.Nearing.{start_stays, stop_keeps}
+use Rattle.fork_lists.proofs.Nearing.{start_size, start_stays, stop_keeps, stop_size}
 use Rattle.fork_lists.proofs.Tied.{both, runs_lives, some_is}
 
 -- whether a slot is this one
@@ -123,7 +125,12 @@ module _ (now : PlainTree) (still : IsTree now) (who : ForkName) (slot : ℕ) (l
             ap is_filled sched
             ∙ filled_test (started_if now.forks (λ f. true) (map.get now.forks newest) left)
             (start_filled now.forks (λ f. true) (map.get now.forks newest) left (stop_filled now.forks (Some who) l.sched (test_filled l.sched can.tied.filled)));
-        calm =
-            ap (λ (s : Schedule). s.waiting) sched
-            ∙ start_stays now.forks (λ f. true) (map.get now.forks newest) left (stop_keeps now.forks (Some who) l.sched can.tied.calm);
       }
+
+      pub maker_waits : n.sched ≡ started_if now.forks (λ f. true) (map.get now.forks newest) left → WaitsLess l.sched.waiting n.sched.waiting
+      maker_waits sched =
+          subst (λ (s : Schedule). WaitsLess l.sched.waiting s.waiting) (sym sched)
+          (less_then l.sched.waiting left.waiting (started_if now.forks (λ f. true) (map.get now.forks newest) left).waiting (stop_keeps now.forks (Some who) l.sched) (start_stays now.forks (λ f. true) (map.get now.forks newest) left))
+
+      pub maker_size : n.sched ≡ started_if now.forks (λ f. true) (map.get now.forks newest) left → size n.sched ≡ size l.sched
+      maker_size sched = ap size sched ∙ start_size now.forks (λ f. true) (map.get now.forks newest) left ∙ stop_size now.forks (Some who) l.sched

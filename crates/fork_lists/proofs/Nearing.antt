@@ -1,5 +1,5 @@
 -- A fork in line goes no farther back while the lists follow others.
-use Rattle.std.proofs.Common.{◌≡◌, ℕ, ◌<◌, Bool, true, false, ◌&&◌, ◌||◌, not, List, [], ◌∷◌, ◌++◌, length, slice_get, Option, None, Some, inl, inr, refl, sym, ◌∙◌, ap, arith, filter}
+use Rattle.std.proofs.Common.{◌≡◌, ℕ, ◌<◌, Bool, true, false, ◌&&◌, ◌||◌, not, List, [], ◌∷◌, ◌++◌, length, slice_get, Option, None, Some, inl, inr, refl, sym, ◌∙◌, ap, arith}
 use Rattle.std.proofs.lemmas.Bool.{cases_Bool, cond_both}
 use Rattle.std.specs.List.{list_any}
 use Rattle.std.specs.Option.{option_map_or}
@@ -10,10 +10,12 @@ use Rattle.plain_model.specs.Forks.{ForkMap, fork_in, runs_in}
 use Rattle.machine_names.specs.Orders.{same_fork}
 use Rattle.job_sched.specs.declared.member.Member.{Member}
 use Rattle.job_sched.specs.Lines.{is_in_line}
-use Rattle.job_sched.specs.Schedules.{Schedule, heads, is_member, is_outside, is_ready, is_waiter, stands, started, stopped}
+use Rattle.job_sched.specs.Schedules.{Schedule, heads, is_member, is_outside, is_ready, is_waiter, size, stands, started, stopped}
+use Rattle.job_sched.specs.Ties.{WaitsLess}
 use Rattle.job_sched.specs.Units.{IsTimed}
 use Rattle.job_sched.proofs.Heads.{starts as head_starts, stops as head_stops}
 use Rattle.job_sched.proofs.Lines.{gives, joins, starts, stops}
+use Rattle.job_sched.proofs.Waits.{less_filter, less_same, less_then, size_started, size_stopped}
 use Rattle.fork_lists.specs.declared.seen.Seen.{Seen}
 use Rattle.fork_lists.specs.Following.{lost_stopped, picks_started, started_if, stopped_if}
 use Rattle.fork_lists.specs.Seeing.{seen_in}
@@ -113,32 +115,61 @@ in_line f s calm here = by (is_ready f s) (is_outside f s) (sym (ap (λ ws. (is_
     by false false e = e
 
 -- nobody enters page wait
-stop_calm : (f : ForkName) (s : Schedule) → s.waiting ≡ [] → (stopped s f).waiting ≡ []
-stop_calm f s calm = ap (filter (λ w. not (is_waiter f w))) calm
+stop_waits : (f : ForkName) (s : Schedule) → WaitsLess s.waiting (stopped s f).waiting
+stop_waits f s = less_filter (λ w. not (is_waiter f w)) s.waiting
 
-start_calm : (f : ForkName) (s : Schedule) → s.waiting ≡ [] → (started s f).waiting ≡ []
-start_calm f s calm = cond_both (stands f s) s (record s { outside = s.outside ++ f ∷ [] }) (λ (u : Schedule). u.waiting ≡ []) (λ is. calm) (λ none. calm)
+start_waits : (f : ForkName) (s : Schedule) → WaitsLess s.waiting (started s f).waiting
+start_waits f s = cond_both (stands f s) s (record s { outside = s.outside ++ f ∷ [] }) (λ (u : Schedule). WaitsLess s.waiting u.waiting) (λ is. less_same s.waiting) (λ none. less_same s.waiting)
 
-pub stop_keeps : (forks : ForkMap) (o : Option ForkName) (s : Schedule) → s.waiting ≡ [] → (stopped_if forks o s).waiting ≡ []
-stop_keeps forks None s calm = calm
-stop_keeps forks (Some f) s calm = cond_both (runs_in forks f) s (stopped s f) (λ (u : Schedule). u.waiting ≡ []) (λ can. calm) (λ lost. stop_calm f s calm)
+pub stop_keeps : (forks : ForkMap) (o : Option ForkName) (s : Schedule) → WaitsLess s.waiting (stopped_if forks o s).waiting
+stop_keeps forks None s = less_same s.waiting
+stop_keeps forks (Some f) s = cond_both (runs_in forks f) s (stopped s f) (λ (u : Schedule). WaitsLess s.waiting u.waiting) (λ can. less_same s.waiting) (λ lost. stop_waits f s)
 
-pub start_stays : (forks : ForkMap) (picks : ForkName → Bool) (o : Option Fork) (s : Schedule) → s.waiting ≡ [] → (started_if forks picks o s).waiting ≡ []
-start_stays forks picks None s calm = calm
-start_stays forks picks (Some f) s calm =
-    cond_both (picks f.name && runs_in forks f.name) (started s f.name) s (λ (u : Schedule). u.waiting ≡ []) (λ can. start_calm f.name s calm) (λ none. calm)
+pub start_stays : (forks : ForkMap) (picks : ForkName → Bool) (o : Option Fork) (s : Schedule) → WaitsLess s.waiting (started_if forks picks o s).waiting
+start_stays forks picks None s = less_same s.waiting
+start_stays forks picks (Some f) s =
+    cond_both (picks f.name && runs_in forks f.name) (started s f.name) s (λ (u : Schedule). WaitsLess s.waiting u.waiting) (λ can. start_waits f.name s) (λ none. less_same s.waiting)
 
 module _ (forks : ForkMap) (t : Tty) where
-  lost_calm : (seen : List Seen) (slots : List ℕ) (s : Schedule) → s.waiting ≡ [] → (lost_stopped forks seen t s slots).waiting ≡ []
-  lost_calm seen [] s calm = calm
-  lost_calm seen (slot ∷ slots) s calm = lost_calm seen slots (stopped_if forks (seen_in seen t slot).fork s) (stop_keeps forks (seen_in seen t slot).fork s calm)
+  lost_waits : (seen : List Seen) (slots : List ℕ) (s : Schedule) → WaitsLess s.waiting (lost_stopped forks seen t s slots).waiting
+  lost_waits seen [] s = less_same s.waiting
+  lost_waits seen (slot ∷ slots) s =
+      let u = stopped_if forks (seen_in seen t slot).fork s in
+      less_then s.waiting u.waiting (lost_stopped forks seen t u slots).waiting (stop_keeps forks (seen_in seen t slot).fork s) (lost_waits seen slots u)
 
-  picks_calm : (picks : ℕ → ForkName → Bool) (slots : List ℕ) (s : Schedule) → s.waiting ≡ [] → (picks_started forks picks t s slots).waiting ≡ []
-  picks_calm picks [] s calm = calm
-  picks_calm picks (slot ∷ slots) s calm = picks_calm picks slots (started_if forks (picks slot) (fork_in forks t slot) s) (start_stays forks (picks slot) (fork_in forks t slot) s calm)
+  picks_wait : (picks : ℕ → ForkName → Bool) (slots : List ℕ) (s : Schedule) → WaitsLess s.waiting (picks_started forks picks t s slots).waiting
+  picks_wait picks [] s = less_same s.waiting
+  picks_wait picks (slot ∷ slots) s =
+      let u = started_if forks (picks slot) (fork_in forks t slot) s in
+      less_then s.waiting u.waiting (picks_started forks picks t u slots).waiting (start_stays forks (picks slot) (fork_in forks t slot) s) (picks_wait picks slots u)
 
-  pub followed_calm : (seen : List Seen) (slots : List ℕ) (s : Schedule) (one two : ℕ → ForkName → Bool) → s.waiting ≡ []
-      → (picks_started forks two t (picks_started forks one t (lost_stopped forks seen t s slots) slots) slots).waiting ≡ []
-  followed_calm seen slots s one two calm =
+  pub followed_waits : (seen : List Seen) (slots : List ℕ) (s : Schedule) (one two : ℕ → ForkName → Bool)
+      → WaitsLess s.waiting (picks_started forks two t (picks_started forks one t (lost_stopped forks seen t s slots) slots) slots).waiting
+  followed_waits seen slots s one two =
       let u = lost_stopped forks seen t s slots in
-      picks_calm two slots (picks_started forks one t u slots) (picks_calm one slots u (lost_calm seen slots s calm))
+      let v = picks_started forks one t u slots in
+      less_then s.waiting v.waiting (picks_started forks two t v slots).waiting (less_then s.waiting u.waiting v.waiting (lost_waits seen slots s) (picks_wait one slots u)) (picks_wait two slots v)
+
+-- as many members and numbers as before
+pub stop_size : (forks : ForkMap) (o : Option ForkName) (s : Schedule) → size (stopped_if forks o s) ≡ size s
+stop_size forks None s = refl
+stop_size forks (Some f) s = cond_both (runs_in forks f) s (stopped s f) (λ (u : Schedule). size u ≡ size s) (λ can. refl) (λ lost. size_stopped s f)
+
+pub start_size : (forks : ForkMap) (picks : ForkName → Bool) (o : Option Fork) (s : Schedule) → size (started_if forks picks o s) ≡ size s
+start_size forks picks None s = refl
+start_size forks picks (Some f) s = cond_both (picks f.name && runs_in forks f.name) (started s f.name) s (λ (u : Schedule). size u ≡ size s) (λ can. size_started s f.name) (λ none. refl)
+
+module _ (forks : ForkMap) (t : Tty) where
+  lost_size : (seen : List Seen) (slots : List ℕ) (s : Schedule) → size (lost_stopped forks seen t s slots) ≡ size s
+  lost_size seen [] s = refl
+  lost_size seen (slot ∷ slots) s = lost_size seen slots (stopped_if forks (seen_in seen t slot).fork s) ∙ stop_size forks (seen_in seen t slot).fork s
+
+  picks_size : (picks : ℕ → ForkName → Bool) (slots : List ℕ) (s : Schedule) → size (picks_started forks picks t s slots) ≡ size s
+  picks_size picks [] s = refl
+  picks_size picks (slot ∷ slots) s = picks_size picks slots (started_if forks (picks slot) (fork_in forks t slot) s) ∙ start_size forks (picks slot) (fork_in forks t slot) s
+
+  pub followed_size : (seen : List Seen) (slots : List ℕ) (s : Schedule) (one two : ℕ → ForkName → Bool)
+      → size (picks_started forks two t (picks_started forks one t (lost_stopped forks seen t s slots) slots) slots) ≡ size s
+  followed_size seen slots s one two =
+      let u = lost_stopped forks seen t s slots in
+      picks_size two slots (picks_started forks one t u slots) ∙ picks_size one slots u ∙ lost_size seen slots s

@@ -33,3 +33,8 @@ picks_started forks picks t s (slot ∷ slots) = picks_started forks picks t (st
 abbrev pub followed : ForkMap → List Seen → Tty → Schedule → Schedule
 followed forks seen t s =
     picks_started forks (λ slot f. not (has_waited seen t slot f)) t (picks_started forks (has_waited seen t) t (lost_stopped forks seen t s job_slots) job_slots) job_slots
+
+-- so of each of these jobs, one after another, with what was seen before the first
+abbrev pub followed_all : ForkMap → List Seen → Schedule → List ℕ → Schedule
+followed_all forks seen s [] = s
+followed_all forks seen s (t ∷ ts) = followed_all forks seen (followed forks seen (record { 0 = t }) s) ts

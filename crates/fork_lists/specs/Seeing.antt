@@ -6,7 +6,7 @@ use Rattle.machine_names.specs.Bounds.{IsForkName, IsTerminal}
 use Rattle.machine_names.specs.Orders.{same_fork}
 use Rattle.machine_names.specs.declared.names.ForkName.{ForkName}
 use Rattle.machine_names.specs.declared.names.Tty.{Tty}
-use Rattle.machine_names.specs.declared.names.TheConstants.{MOST_FORKS}
+use Rattle.machine_names.specs.declared.names.TheConstants.{MOST_FORKS, TERMINALS}
 use Rattle.plain_model.specs.declared.fork.Fork.{Fork}
 use Rattle.plain_model.specs.Moves.{waits_for_one}
 use Rattle.fork_lists.specs.declared.seen.Seen.{Seen}
@@ -14,6 +14,10 @@ use Rattle.fork_lists.specs.declared.seen.Seen.{Seen}
 -- the slots of a job, in order
 unfoldable pub job_slots : List ℕ
 job_slots = range_with_len 1 MOST_FORKS
+
+-- the terminals, in order
+unfoldable pub all_jobs : List ℕ
+all_jobs = range_with_len 0 TERMINALS
 
 -- no fork is in a slot
 abbrev pub nobody : Seen

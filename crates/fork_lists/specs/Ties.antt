@@ -10,8 +10,8 @@ use Rattle.plain_model.specs.Trees.{PlainTree}
 use Rattle.fork_tree.specs.Making.{AddsBeside}
 use Rattle.fork_tree.specs.Trees.{IsIn, IsTree}
 use Rattle.job_sched.specs.Lines.{Nears}
-use Rattle.job_sched.specs.Schedules.{Schedule, heads, stands}
-use Rattle.job_sched.specs.Ties.{IsFilled}
+use Rattle.job_sched.specs.Schedules.{Schedule, heads, size, stands}
+use Rattle.job_sched.specs.Ties.{IsFilled, WaitsLess}
 use Rattle.fork_lists.specs.Seeing.{job_slots, seen_in, seen_of, was_seen}
 use Rattle.fork_lists.specs.declared.lists.ForkLists.{ForkLists}
 
@@ -29,11 +29,10 @@ is_none (x ∷ xs) = false
 abbrev pub is_filled : Schedule → Bool
 is_filled s = is_none s.outside || is_none s.spare
 
--- so of each job; while the set has room nobody stands outside, and no fork is in page wait
+-- so of each job; and while the set has room nobody stands outside
 pub record AreTied (forks : ForkMap) (l : ForkLists) : Type 0 where
   pub each : (t : Tty) → IsTiedAt forks l t
   pub filled : is_filled l.sched ≡ true
-  pub calm : l.sched.waiting ≡ []
 
 -- what the lists ask before they follow the forks of a job: whoever stands in them of that job was seen there, and of another lives
 pub record CanFollow (forks : ForkMap) (l : ForkLists) (t : Tty) : Type 0 where
@@ -50,7 +49,8 @@ pub record Follows (forks : ForkMap) (t : Tty) (old new : ForkLists) : Type 0 wh
   pub listed : (f : ForkName) → f.tty.0 ≢ t.0 → stands f new.sched ≡ stands f old.sched
   pub seen : (u : Tty) (slot : ℕ) → u.0 ≢ t.0 → 1 ≤ slot → slot ≤ MOST_FORKS → seen_in new.seen.items u slot ≡ seen_in old.seen.items u slot
   pub filled : IsFilled old.sched → IsFilled new.sched
-  pub calm : old.sched.waiting ≡ [] → new.sched.waiting ≡ []
+  pub waits : WaitsLess old.sched.waiting new.sched.waiting
+  pub set : size new.sched ≡ size old.sched
 
 -- what the lists ask before they follow the forks of all jobs: whoever stands in them lives, and was seen in its job
 pub record CanFollowAll (forks : ForkMap) (l : ForkLists) : Type 0 where
@@ -61,7 +61,8 @@ pub record CanFollowAll (forks : ForkMap) (l : ForkLists) : Type 0 where
 pub record FollowsAll (forks : ForkMap) (old new : ForkLists) : Type 0 where
   pub each : (t : Tty) → IsTiedAt forks new t
   pub filled : IsFilled old.sched → IsFilled new.sched
-  pub calm : old.sched.waiting ≡ [] → new.sched.waiting ≡ []
+  pub waits : WaitsLess old.sched.waiting new.sched.waiting
+  pub set : size new.sched ≡ size old.sched
 
 -- a fork in line has come no farther back, and closer where the head has lost its place
 pub record ComesOn (f : ForkName) (old new : Schedule) : Type 0 where

@@ -1,9 +1,9 @@
 // Whose turn is next, and for how long.
-ghost use Rattle.std.specs.Prelude.{◌≡◌, ◌-◌, ◌*◌, ◌<◌, ◌≤◌, IfOk, MatchOption, length, min, replicate, true};
+ghost use Rattle.std.specs.Prelude.{◌≡◌, ◌+◌, ◌-◌, ◌*◌, ◌/◌, ◌<◌, ◌≤◌, IfOk, MatchOption, [], length, min, replicate, true};
 ghost use Rattle.std.specs.FinMap as map;
 ghost use Rattle.machine_names.specs.declared.names.ForkName.{ForkName as AForkName};
 ghost use Rattle.plain_model.specs.Forks.{ForkMap, IsRunnable};
-ghost use Rattle.job_sched.specs.Schedules.{heads};
+ghost use Rattle.job_sched.specs.Schedules.{empty, heads, size};
 ghost use Rattle.job_sched.specs.Ties.{IsSound};
 ghost use Rattle.job_sched.specs.Units.{IsAlone, IsRow, row_ran};
 ghost use Rattle.machine_names.specs.declared.names.TheConstants.{MOST_FORKS, TERMINALS, QUANTUM};
@@ -32,7 +32,8 @@ impl ForkLists {
     pub fn boot(alloc: Global, set: u32) -> Result<ForkLists, Memory>
         requires first { 1 ≤ set }
         requires last { set ≤ 63 }
-        ensures { IfOk result (AreTied map.empty) }
+        ensures tied { IfOk result (AreTied map.empty) }
+        ensures empty { IfOk result (λ l. l.sched ≡ empty set) }
     {
         let sched = Sched::boot(alloc, set)?;
         let seen = nobody_seen(alloc)?;
@@ -46,9 +47,9 @@ impl ForkLists {
         self.sched.sound();
     }
 
-    /// The fork whose turn is next: the head of the ready list (CACM paper, "Scheduling"). None exactly where no fork can run. One step.
+    /// The fork whose turn is next: the head of the ready list (CACM paper, "Scheduling"). None exactly where none is ready: where none is in page wait either, no fork can run. One step.
     pub fn choose(&self) -> Option<ForkName>
-        ensures chosen { (forks : ForkMap) → AreTied forks self.now → MatchOption result ((f : AForkName) → IsRunnable forks f → ⊥) (IsRunnable forks) }
+        ensures chosen { (forks : ForkMap) → AreTied forks self.now → MatchOption result (self.now.sched.waiting ≡ [] → (f : AForkName) → IsRunnable forks f → ⊥) (IsRunnable forks) }
         ensures head { MatchOption result (length self.now.sched.ready ≡ 0) (λ f. (0 < length self.now.sched.ready) × (heads f self.now.sched.ready ≡ true)) }
     {
         self.sched.sound();
@@ -79,13 +80,29 @@ impl ForkLists {
         self.sched.most_in_row(left)
     }
 
-    /// A row of so many units of the head is over, and the quanta that end by it.
-    pub fn ran_row(&mut self, count: u32)
+    /// The same, and no more than those that are left of its quantum, whether or not another fork can run.
+    pub fn most_in_quantum(&self, left: u32) -> u32
+        requires head { 0 < length self.now.sched.ready }
+        requires some { 1 ≤ left }
+        ensures quantum { result ≡ min left (QUANTUM - self.now.sched.used) }
+        ensures within { self.now.sched.used + result ≤ QUANTUM }
+        ensures row { IsRow result self.now.sched }
+        ensures most { result ≤ left }
+        ensures some { 1 ≤ result }
+    {
+        left.min(self.sched.quantum_left())
+    }
+
+    /// A row of so many units of the head is over, and the quanta that end by it. How many quanta these are.
+    pub fn ran_row(&mut self, count: u32) -> u32
         requires { IsRow count self.old.sched }
+        ensures ended { result ≡ (self.old.sched.used + count) / QUANTUM }
+        ensures waits { self.new.sched.waiting ≡ self.old.sched.waiting }
+        ensures set { size self.new.sched ≡ size self.old.sched }
         ensures ran { self.new.sched ≡ row_ran count self.old.sched }
         ensures seen { self.new.seen ≡ self.old.seen }
         ensures tied { (forks : ForkMap) → AreTied forks self.old → AreTied forks self.new }
     {
-        self.sched.ran_row(count);
+        self.sched.ran_row(count)
     }
 }

@@ -10,9 +10,11 @@ ghost use Rattle.plain_model.specs.declared.fork.Fork.{Fork as AFork};
 ghost use Rattle.plain_model.specs.Forks.{IsRunnable, fork_in, runs_in};
 ghost use Rattle.fork_tree.specs.Making.{last_name};
 ghost use Rattle.job_sched.specs.Lines.{is_in_line};
+ghost use Rattle.job_sched.specs.Schedules.{size};
+ghost use Rattle.job_sched.specs.Ties.{WaitsLess};
 ghost use Rattle.fork_lists.specs.Seeing.{place_at};
-ghost use Rattle.fork_lists.specs.Following.{followed, lost_stopped, picks_started, started_if, stopped_if};
-ghost use Rattle.fork_lists.specs.Seeing.{has_waited, job_slots, seen_in, seen_of as seen_of_fork, SeenElsewhere};
+ghost use Rattle.fork_lists.specs.Following.{followed, followed_all, lost_stopped, picks_started, started_if, stopped_if};
+ghost use Rattle.fork_lists.specs.Seeing.{all_jobs, has_waited, job_slots, seen_in, seen_of as seen_of_fork, SeenElsewhere};
 ghost use Rattle.fork_lists.specs.Ties.{AreTied, CanFollow, CanFollowAll, CanFollowMaker, ComesOn, Follows, FollowsAll, Living};
 ghost use Rattle.fork_lists.specs.Choices.{picked};
 
@@ -210,6 +212,8 @@ impl ForkLists {
         ensures schedule { self.new.sched ≡ stopped_if tree.now.forks (Some who) self.old.sched }
         ensures mine { seen_in self.new.seen.items who.tty slot ≡ seen_of_fork (fork_in tree.now.forks who.tty slot) }
         ensures others { SeenElsewhere self.old.seen.items self.new.seen.items who.tty slot }
+        ensures waits { WaitsLess self.old.sched.waiting self.new.sched.waiting }
+        ensures set { size self.new.sched ≡ size self.old.sched }
         ensures comes_on { (f : AForkName) → IsRunnable tree.now.forks f → is_in_line f self.old.sched ≡ true → ComesOn f self.old.sched self.new.sched }
     {
         self.sched.sound();
@@ -243,7 +247,10 @@ impl ForkLists {
     /// leaves them, and the set is filled; then the new one, where it can run, is put last outside. Two looks.
     pub fn follow_maker(&mut self, tree: &Tree, who: ForkName, slot: u8)
         requires can { CanFollowMaker tree.now who slot self.old }
+        ensures schedule { self.new.sched ≡ started_if tree.now.forks (λ f. true) (map.get tree.now.forks (last_name tree.now who.tty)) (stopped_if tree.now.forks (Some who) self.old.sched) }
         ensures tied { AreTied tree.now.forks self.new }
+        ensures waits { WaitsLess self.old.sched.waiting self.new.sched.waiting }
+        ensures set { size self.new.sched ≡ size self.old.sched }
         ensures comes_on { (f : AForkName) → IsRunnable tree.now.forks f → is_in_line f self.old.sched ≡ true → ComesOn f self.old.sched self.new.sched }
     {
         tree.are_trees();
@@ -254,6 +261,7 @@ impl ForkLists {
     /// The lists follow the forks of all jobs, which live as they did, by terminal.
     pub fn follow_all(&mut self, tree: &Tree)
         requires can { CanFollowAll tree.now.forks self.old }
+        ensures schedule { self.new.sched ≡ followed_all tree.now.forks self.old.seen.items self.old.sched all_jobs }
         ensures follows { FollowsAll tree.now.forks self.old self.new }
         ensures comes_on { (f : AForkName) → IsRunnable tree.now.forks f → is_in_line f self.old.sched ≡ true → ComesOn f self.old.sched self.new.sched }
     {

@@ -7,5 +7,6 @@ mod choosing;
 mod following;
 mod lists;
 mod seen;
+mod waiting;
 
 pub use lists::ForkLists;

@@ -13,3 +13,4 @@ pub mod Lines
 pub mod Alone
 pub mod Heads
 pub mod Apart
+pub mod Waits

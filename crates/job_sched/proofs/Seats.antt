@@ -1,16 +1,18 @@
 -- Members by their numbers, and the schedule at the beginning.
-use Rattle.std.proofs.Common.{◌≡◌, ◌≢◌, ℕ, zero, suc, ◌<◌, ◌≤◌, ◌==◌, inl, inr, List, [], ◌∷◌, ◌++◌, length, map, true, None, Some, slice_get, slice_index, slice_index_or, replicate, refl, sym, ◌∙◌, ap, subst, arith}
+use Rattle.std.proofs.Common.{◌≡◌, ◌≢◌, ℕ, zero, suc, ◌+◌, ◌*◌, ◌<◌, ◌≤◌, ◌==◌, inl, inr, List, [], ◌∷◌, ◌++◌, length, map, true, None, Some, slice_get, slice_index, slice_index_or, replicate, refl, sym, ◌∙◌, ap, subst, arith}
 use Rattle.std.specs.List.{find}
 use Rattle.std.proofs.lemmas.Bool.{cases_eq}
 use Rattle.std.proofs.lemmas.List.{length-replicate}
 use Rattle.machine_names.specs.declared.names.TheConstants.{QUANTUM, TERMINALS, LAST_SERIAL}
 use Rattle.frame_order.specs.FrameOrder.{Order, IsOnce, stands_in}
 use Rattle.frame_order.proofs.Changes.{same_test, other_test}
+use Rattle.frame_order.proofs.Orders.{not_true, stands_first, stands_behind, first_or_behind}
 use Rattle.job_sched.specs.declared.member.Waiter.{Waiter}
 use Rattle.job_sched.specs.Rows.{Rows, IsRows, row, up_to}
-use Rattle.job_sched.specs.Schedules.{Schedule, empty, member_of, members, has_seat, size}
+use Rattle.job_sched.specs.Schedules.{Schedule, empty, member_of, members, has_seat, seats_of, size, waits_in}
 use Rattle.job_sched.specs.Units.{IsTimed}
 use Rattle.job_sched.specs.Places.{spot, all_places, schedule_of, IsSeated, IsKept}
+use Rattle.job_sched.proofs.Leaving.{once_both}
 use Rattle.job_sched.proofs.Moves.{first_of}
 use Rattle.job_sched.proofs.RowChanges.{length-up, stands_up, up_once, zeros}
 use Rattle.job_sched.proofs.Looks.{find_none, find_own, in_members, in_rows, members_at}
@@ -62,6 +64,66 @@ module _ (r : Rows) (numbers : Order) (spots : List Waiter) (places seats : List
       (λ q at. other_test k (spot spots q).seat (λ e.
       let same : p ≡ q = sym leads ∙ ap (slice_index seats) e ∙ (member_seated q at).leads in
       none (subst (λ (i : ℕ). stands_in i (row r 2 ++ row r 3) ≡ true) (sym same) at) (ap (λ (i : ℕ). (spot spots i).seat) same ∙ sym e)))
+
+  -- so among those that wait
+  pub waiter_seated : stands_in p (row r 3) ≡ true → (spot spots p).seat ≡ k → find (waits_in k) (map (spot spots) (row r 3)) ≡ Some (spot spots p)
+  waiter_seated here is =
+      find_own (spot spots) (waits_in k) p (row r 3) (λ q at. tells_seat is (kept.seated 3 p (omega arith) here) q (kept.seated 3 q (omega arith) at)) here
+
+  pub nobody_seated : slice_index seats k ≡ p → (stands_in p (row r 3) ≡ true → (spot spots p).seat ≢ k) → find (waits_in k) (map (spot spots) (row r 3)) ≡ None
+  nobody_seated leads none =
+      find_none (spot spots) (waits_in k) (row r 3)
+      (λ q at. other_test k (spot spots q).seat (λ e.
+      let same : p ≡ q = sym leads ∙ ap (slice_index seats) e ∙ (kept.seated 3 q (omega arith) at).leads in
+      none (subst (λ (i : ℕ). stands_in i (row r 3) ≡ true) (sym same) at) (ap (λ (i : ℕ). (spot spots i).seat) same ∙ sym e)))
+
+-- places that are there once, each with a number of its own, have numbers that are there once; and each is that of a place
+pub number_there : (h : ℕ → ℕ) (n : ℕ) (xs : List ℕ) → stands_in n (map h xs) ≡ true → (q : ℕ) × ((stands_in q xs ≡ true) × (h q ≡ n))
+number_there h n [] here = absurd cc
+number_there h n (x ∷ xs) here = elim (first_or_behind n (h x) (map h xs) here) [
+  | inl same ↦ (x, (stands_first x xs, sym same))
+  | inr behind ↦ let at = number_there h n xs behind in (at.0, (stands_behind at.0 x xs at.1.0, at.1.1))
+]
+
+pub once_numbers : (h : ℕ → ℕ) (xs : List ℕ) → IsOnce xs → ((p q : ℕ) → stands_in p xs ≡ true → stands_in q xs ≡ true → h p ≡ h q → p ≡ q) → IsOnce (map h xs)
+once_numbers h [] once own = tt
+once_numbers h (x ∷ xs) once own = (
+  not_true _ (λ here.
+      let at = number_there h (h x) xs here in
+      let it : x ≡ at.0 = own x at.0 (stands_first x xs) (stands_behind at.0 x xs at.1.0) (sym at.1.1) in
+      let no : stands_in x xs ≡ true = subst (λ (i : ℕ). stands_in i xs ≡ true) (sym it) at.1.0 in
+      absurd (cc (no, once.0))),
+  once_numbers h xs once.1 (λ p q here there same. own p q (stands_behind p x xs here) (stands_behind q x xs there) same),
+)
+
+map_seats : (spots : List Waiter) (xs : List ℕ) → map (λ m. m.seat) (map (λ q. member_of (spot spots q)) xs) ≡ map (λ q. (spot spots q).seat) xs
+map_seats spots [] = refl
+map_seats spots (x ∷ xs) = ap (λ (ks : List ℕ). (spot spots x).seat ∷ ks) (map_seats spots xs)
+
+module _ (r : Rows) (numbers : Order) (spots : List Waiter) (places seats : List ℕ) (used : ℕ) (kept : IsKept r numbers spots places seats used) where
+  has_number : (q : ℕ) → stands_in q (row r 2 ++ row r 3) ≡ true → IsSeated numbers spots seats q
+  has_number q at = elim (in_rows q (row r 2) (row r 3) at) [
+    | inl ready ↦ kept.seated 2 q (omega arith) ready
+    | inr waiting ↦ kept.seated 3 q (omega arith) waiting
+  ]
+
+  pub seats_at : seats_of (schedule_of r spots numbers.order used) ≡ map (λ q. (spot spots q).seat) (row r 2 ++ row r 3)
+  seats_at = ap (map (λ m. m.seat)) (members_at r spots numbers.order used) ∙ map_seats spots (row r 2 ++ row r 3)
+
+  pub seats_once : IsOnce (seats_of (schedule_of r spots numbers.order used))
+  seats_once =
+      let rs = kept.names.rows in
+      subst IsOnce (sym seats_at)
+      (once_numbers (λ q. (spot spots q).seat) (row r 2 ++ row r 3)
+      (once_both (row r 2) (row r 3) (rs.once 2) (rs.once 3) (λ q a b. let no = rs.apart 2 3 q a b in absurd (omega arith)))
+      (λ p q here there same. sym (has_number p here).leads ∙ ap (slice_index seats) same ∙ (has_number q there).leads))
+
+  pub seats_below : (k : ℕ) → stands_in k (seats_of (schedule_of r spots numbers.order used)) ≡ true → k < numbers.frames
+  seats_below k here =
+      let at = number_there (λ q. (spot spots q).seat) k (row r 2 ++ row r 3) (subst (λ (ks : List ℕ). stands_in k ks ≡ true) seats_at here) in
+      let below = (has_number at.0 at.1.0).below in
+      let is = at.1.1 in
+      omega arith
 
 -- all numbers in the first row
 no_row : (n k p : ℕ) → stands_in p (slice_index_or (up_to n ∷ [] ∷ [] ∷ [] ∷ []) (suc k) []) ≡ true → ⊥

@@ -75,7 +75,7 @@ kept_by P uses ends (m ∷ ms) os ws ks u true holds test =
 kept_by P uses ends (m ∷ ms) os ws ks u false holds test =
     subst P (sym (ap (λ (b : Bool). if b then quantum_ended (of (m ∷ ms) os ws ks u) else of (m ∷ ms) os ws ks (u + 1)) test)) (uses (of (m ∷ ms) os ws ks u) (u + 1) holds)
 
-rows_keep : (P : Schedule → Type 0) → ((s : Schedule) (u : ℕ) → P s → P (record s { used = u }))
+pub rows_keep : (P : Schedule → Type 0) → ((s : Schedule) (u : ℕ) → P s → P (record s { used = u }))
     → ((m : Member) (ms : List Member) (os : List ForkName) (ws : List Waiter) (ks : List ℕ) (u : ℕ) → P (of (m ∷ ms) os ws ks u) → P (quantum_ended (of (m ∷ ms) os ws ks u)))
     → (n : ℕ) (s : Schedule) → P s → P (row_ran n s)
 unfolding row_ran

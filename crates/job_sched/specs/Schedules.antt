@@ -1,6 +1,7 @@
 -- Which forks are to run, in which order (CACM paper, "Scheduling").
-use Rattle.std.specs.Prelude.{ℕ, ◌+◌, ◌==◌, List, [], ◌∷◌, ◌++◌, length, map, filter, drop, Bool, true, false, not, ◌||◌, if◌then◌else◌}
-use Rattle.std.specs.List.{list_any}
+use Rattle.std.specs.Prelude.{ℕ, ◌+◌, ◌==◌, List, [], ◌∷◌, ◌++◌, length, map, filter, drop, Bool, true, false, not, ◌||◌, Option, if◌then◌else◌}
+use Rattle.std.specs.List.{find, list_any}
+use Rattle.std.specs.Option.{option_map}
 use Rattle.machine_names.specs.declared.names.ForkName.{ForkName}
 use Rattle.page_contracts.specs.declared.answers.Need.{Need}
 use Rattle.page_contracts.specs.declared.answers.Need.TheVariants.{Page, Frame}
@@ -163,3 +164,23 @@ size s = length s.ready + length s.waiting + length s.spare
 -- whether a member has this number
 abbrev pub has_seat : ℕ → Member → Bool
 has_seat k m = k == m.seat
+
+-- whether a member in page wait has it
+abbrev pub waits_in : ℕ → Waiter → Bool
+waits_in k w = k == w.seat
+
+-- the member that has a number
+abbrev pub member_at : Schedule → ℕ → Option ForkName
+member_at s k = option_map (λ m. m.fork) (find (has_seat k) (members s))
+
+-- what the one of these that has a number waits for
+abbrev pub wait_in : List Waiter → ℕ → Option Need
+wait_in ws k = option_map (λ w. w.need) (find (waits_in k) ws)
+
+-- what the member that has a number waits for, where it is in page wait
+abbrev pub wait_at : Schedule → ℕ → Option Need
+wait_at s k = wait_in s.waiting k
+
+-- the numbers that members have
+abbrev pub seats_of : Schedule → List ℕ
+seats_of s = map (λ m. m.seat) (members s)

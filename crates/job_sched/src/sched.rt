@@ -4,7 +4,7 @@ ghost use Rattle.std.specs.Option.{option_map};
 ghost use Rattle.std.specs.List.{find};
 ghost use Rattle.machine_names.specs.declared.names.ForkName.{ForkName as AForkName};
 ghost use Rattle.machine_names.specs.Bounds.{IsForkName};
-ghost use Rattle.job_sched.specs.Schedules.{stands, admitted, arrived, count, empty, ends_wait, first_seated, has_seat, is_member, is_waiter, left, looked_at, members, one_admitted, quantum_ended, rotated, sent_out, size, started, stopped, waited, woken};
+ghost use Rattle.job_sched.specs.Schedules.{stands, wait_at, admitted, arrived, count, empty, ends_wait, first_seated, has_seat, is_member, is_waiter, left, looked_at, members, one_admitted, quantum_ended, rotated, sent_out, size, started, stopped, waited, woken};
 ghost use Rattle.job_sched.specs.Places.{AreNamed, IsPlaceOf, is_at, name_index};
 ghost use Rattle.job_sched.specs.Rows.{number};
 ghost use Rattle.job_sched.specs.Units.{IsAlone, IsRow, row_ran};
@@ -414,5 +414,29 @@ impl Sched {
             return None;
         }
         Some(spot.fork)
+    }
+
+    /// How many members the set may have.
+    pub fn set(&self) -> u16
+        ensures { result ≡ size self.now }
+    {
+        self.seated.len() as u16
+    }
+
+    /// What the member that has this number waits for. None exactly where none has it, or it isn't in page wait.
+    pub fn waits_at(&self, seat: u16) -> Option<Need>
+        requires { seat < size self.now }
+        ensures { result ≡ wait_at self.now seat }
+    {
+        let place = self.seated[usize::from(seat)];
+        let spot = self.spots[usize::from(place)];
+        let row = self.rows.row_of(u32::from(place));
+        if spot.seat != seat {
+            return None;
+        }
+        match row {
+            Row::Waiting => Some(spot.need),
+            _ => None,
+        }
     }
 }

@@ -26,13 +26,14 @@ use Rattle.ka10_table.specs.declared.families.Family.TheVariants as family
 use Rattle.ka10_table.specs.declared.families.OpMode.TheVariants.{Basic}
 use Rattle.ka10_table.specs.Rows.{row_of, row_among}
 use Rattle.ka10_deeds.specs.Done.{Leaves, channel_of}
-use Rattle.ka10_in_place.specs.Glide.{glide, is_ready}
+use Rattle.ka10_spots.specs.Glide.{glide, is_ready}
 use Rattle.ka10_in_place.specs.InPlace.{Finish, InPlace, IsOwnRow, deed_in, ended}
-use Rattle.ka10_in_place.specs.Spots.{Stored, StoredIf}
-use Rattle.ka10_in_place.proofs.Finishing.{few, if_ended, is_low, is_high, never_slow}
-use Rattle.ka10_in_place.proofs.Stored.{lost_none}
+use Rattle.ka10_spots.specs.Spots.{Stored, StoredIf}
+use Rattle.ka10_spots.proofs.Ready.{few, is_low, is_high}
+use Rattle.ka10_in_place.proofs.Finishing.{if_ended, never_slow}
+use Rattle.ka10_spots.proofs.Stored.{lost_none}
 use Rattle.ka10_in_place.proofs.Placing.{length_with}
-use Rattle.ka10_in_place.proofs.Used.{stays_put}
+use Rattle.ka10_spots.proofs.Used.{stays_put}
 
 -- two places are set in either order
 set_other : (xs : List ℕ) (i j a b : ℕ) → i ≢ j → slice_set (slice_set xs i a) j b ≡ slice_set (slice_set xs j b) i a

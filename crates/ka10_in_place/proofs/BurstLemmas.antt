@@ -10,14 +10,14 @@ use Rattle.plain_pages.specs.PlainPages.{NumberedPages}
 use Rattle.ka10_in_place.specs.declared.ending.Quick.{Quick}
 use Rattle.ka10_in_place.specs.declared.ending.Quick.TheVariants as quick
 use Rattle.ka10_in_place.specs.declared.ending.BurstEnd.TheVariants as end
-use Rattle.ka10_in_place.specs.Once.{After, once, in_a_row}
+use Rattle.ka10_spots.specs.Once.{After, once, in_a_row}
 use Rattle.ka10_in_place.specs.declared.fetch_page.FetchPage.{FetchPage}
 use Rattle.ka10_in_place.specs.InPlace.{IfDone, InPlace}
 use Rattle.ka10_in_place.specs.Fetches.{CanExecute, FetchedUnit, IsThere}
 use Rattle.ka10_in_place.specs.Bursts.{InRow, SoFar, and_one_more}
-use Rattle.ka10_in_place.proofs.Used.{of_fork, plain_is, stays_on, stays_put}
+use Rattle.ka10_spots.proofs.Used.{of_fork, plain_is, stays_on, stays_put}
 use Rattle.ka10_in_place.proofs.Finishing.{if_more}
-use Rattle.ka10_in_place.proofs.Stored.{lost_none, lost_on}
+use Rattle.ka10_spots.proofs.Stored.{lost_none, lost_on}
 use Rattle.ka10_in_place.proofs.Fetching.{has_none}
 
 module _ (f : ForkName) (p : NumberedPages) (regs : Regs) where

@@ -22,10 +22,11 @@ use Rattle.ka10_in_place.specs.declared.ending.Quick.{Quick}
 use Rattle.ka10_deeds.specs.declared.bytes.ByteStep.{ByteStep}
 use Rattle.ka10_deeds.specs.Bytes.{steps_of}
 use Rattle.ka10_in_place.specs.ByteRests.{PointsTo, begun, byte_rest, deposited_word, depositing, loaded_byte, loading}
-use Rattle.ka10_in_place.specs.Once.{After}
-use Rattle.ka10_in_place.specs.Glide.{glide, is_ready, word_of, Takes}
+use Rattle.ka10_spots.specs.Once.{After}
+use Rattle.ka10_spots.specs.Glide.{glide, is_ready, word_of, Takes}
 use Rattle.ka10_in_place.specs.InPlace.{Addressee, InPlace, Rest, behind_address, ended, is_addressed}
-use Rattle.ka10_in_place.proofs.Finishing.{few, for_all, never_slow}
+use Rattle.ka10_spots.proofs.Ready.{few}
+use Rattle.ka10_in_place.proofs.Finishing.{for_all, never_slow}
 use Rattle.ka10_in_place.proofs.Placing.{in_place_more}
 
 module _ (f : ForkName) (p : NumberedPages) (ac : List ℕ) where

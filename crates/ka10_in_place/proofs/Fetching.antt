@@ -18,11 +18,11 @@ use Rattle.plain_units.specs.Addressing.{opcode, ac_field}
 use Rattle.plain_units.specs.Instructions.{instruction}
 use Rattle.std.specs.Prelude.{nat_le}
 use Rattle.ka10_in_place.specs.declared.fetch_page.FetchPage.{FetchPage}
-use Rattle.ka10_in_place.specs.Once.{After, once}
-use Rattle.ka10_in_place.specs.Glide.{makes_none, is_ready, word_of, glide, Takes, Addressed}
+use Rattle.ka10_spots.specs.Once.{After, once}
+use Rattle.ka10_spots.specs.Glide.{makes_none, is_ready, word_of, glide, Takes, Addressed}
 use Rattle.ka10_in_place.specs.InPlace.{Addressee}
 use Rattle.ka10_in_place.specs.Fetches.{Has, IsThere, CanExecute}
-use Rattle.ka10_in_place.proofs.Stored.{makings_stored}
+use Rattle.ka10_spots.proofs.Stored.{makings_stored}
 use Rattle.ka10_in_place.proofs.Gliding.{through, once_glides}
 use Rattle.ka10_in_place.proofs.Units.{unit_glides}
 

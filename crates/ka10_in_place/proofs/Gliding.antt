@@ -17,8 +17,8 @@ use Rattle.machine_names.specs.PageWords.{zero_words}
 use Rattle.plain_units.specs.Steps.{Steps, refers, widens, keeps, ends, traps, calls, is_accumulator, goes, asked_at, Progress, run, plainly, plain_asked, seen, word_taken}
 use Rattle.plain_units.specs.Instructions.{instruction}
 use Rattle.plain_pages.proofs.ReferencesMade.{reference_stays}
-use Rattle.ka10_in_place.specs.Once.{After, once, went_through}
-use Rattle.ka10_in_place.specs.Glide.{makes_none, is_ready, word_of, glide}
+use Rattle.ka10_spots.specs.Once.{After, once, went_through}
+use Rattle.ka10_spots.specs.Glide.{makes_none, is_ready, word_of, glide}
 
 no_making : {K : Type 0} (ms : Option (List (Making K))) → makes_none ms ≡ true → ms ≡ Some []
 no_making None h = absurd (cc h)

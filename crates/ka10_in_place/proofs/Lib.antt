@@ -1,12 +1,9 @@
 pub mod Gliding
 pub mod Storing
 pub mod Finishing
-pub mod Used
 pub mod Placing
-pub mod IndirectWords
 pub mod Units
 pub mod Fetching
 pub mod BurstLemmas
 pub mod ByteLemmas
 pub mod BlockLemmas
-pub mod Stored

@@ -24,15 +24,15 @@ use Rattle.ka10_in_place.specs.declared.ending.Quick.{Quick}
 use Rattle.ka10_in_place.specs.declared.ending.Quick.TheVariants as quick
 use Rattle.ka10_deeds.specs.Done.{Leaves, channel_of}
 use Rattle.ka10_deeds.specs.Acts.{Instruction}
-use Rattle.ka10_in_place.specs.Glide.{is_ready, glide}
+use Rattle.ka10_spots.specs.Glide.{is_ready, glide}
 use Rattle.ka10_in_place.specs.Targets.{unstored, target_of, place_of}
 use Rattle.ka10_in_place.proofs.Storing.{stores_at, stored_nowhere, stored_to}
-use Rattle.ka10_in_place.specs.Once.{After}
+use Rattle.ka10_spots.specs.Once.{After}
 use Rattle.ka10_in_place.specs.InPlace.{Does, IsOwnRow, deed_in, taken_in, IfDone, InPlace, Finish, Addressee, is_addressed, is_deed, behind_address, ended}
-use Rattle.ka10_in_place.specs.Spots.{Stored, StoredIf}
+use Rattle.ka10_spots.specs.Spots.{Stored, StoredIf}
 use Rattle.ka10_in_place.specs.Stores.{IsNowhere, GoesTo, IsOperand}
-use Rattle.ka10_in_place.proofs.Stored.{lost_none, lost_on}
-use Rattle.ka10_in_place.proofs.Used.{holds_still, of_fork, plain_is, stays_on, stays_put, uses_none, uses_on}
+use Rattle.ka10_spots.proofs.Stored.{lost_none, lost_on}
+use Rattle.ka10_spots.proofs.Used.{holds_still, of_fork, plain_is, stays_on, stays_put, uses_none, uses_on}
 use Rattle.ka10_in_place.proofs.Finishing.{if_ended, never_slow, for_all, ends_bare, ends_low, ends_high, takes_none, takes_some, no_word}
 
 -- no accumulator more or less

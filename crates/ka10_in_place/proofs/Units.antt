@@ -13,8 +13,8 @@ use Rattle.plain_pages.specs.PlainPages.{NumberedPages}
 use Rattle.plain_units.specs.Steps.{Steps, traps}
 use Rattle.plain_units.specs.Addressing.{address, opcode, ac_field}
 use Rattle.plain_units.specs.Instructions.{instruction, execute, executes, does, is_executive}
-use Rattle.ka10_in_place.specs.Once.{After}
-use Rattle.ka10_in_place.specs.Glide.{glide, Takes, Addressed}
+use Rattle.ka10_spots.specs.Once.{After}
+use Rattle.ka10_spots.specs.Glide.{glide, Takes, Addressed}
 use Rattle.ka10_in_place.specs.InPlace.{Addressee, is_addressed, behind_address}
 
 -- an instruction with an address goes on with it

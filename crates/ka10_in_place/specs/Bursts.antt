@@ -13,7 +13,7 @@ use Rattle.ka10_in_place.specs.declared.ending.Burst.{Burst}
 use Rattle.ka10_in_place.specs.declared.ending.BurstEnd.{BurstEnd}
 use Rattle.ka10_in_place.specs.declared.ending.BurstEnd.TheVariants as end
 use Rattle.ka10_in_place.specs.declared.fetch_page.FetchPage.{FetchPage}
-use Rattle.ka10_in_place.specs.Once.{After, once, in_a_row}
+use Rattle.ka10_spots.specs.Once.{After, once, in_a_row}
 use Rattle.ka10_in_place.specs.Fetches.{CanExecute, IsThere}
 
 -- so many units in a row, and then one more

@@ -9,7 +9,7 @@ use Rattle.plain_units.specs.Instructions.{finishes, first_part_done}
 use Rattle.ka10_deeds.specs.declared.bytes.ByteStep.{ByteStep}
 use Rattle.ka10_deeds.specs.declared.bytes.ByteStep.TheVariants.{Load, LoadSecond, Deposit, DepositSecond}
 use Rattle.ka10_deeds.specs.Bytes.{byte_deposited, byte_loaded, steps_of}
-use Rattle.ka10_in_place.specs.Glide.{Takes, Addressed}
+use Rattle.ka10_spots.specs.Glide.{Takes, Addressed}
 
 -- the pointer is taken, and then the step is done
 abbrev pub byte_rest : ByteStep → Regs → ℕ → ℕ → Steps

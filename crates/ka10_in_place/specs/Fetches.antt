@@ -11,8 +11,8 @@ use Rattle.page_contracts.specs.DrumWords.{DrumWords}
 use Rattle.page_contracts.specs.Pages.{PagesMeaning, IsTouched}
 use Rattle.plain_pages.specs.PlainPages.{NumberedPages}
 use Rattle.ka10_in_place.specs.declared.fetch_page.FetchPage.{FetchPage}
-use Rattle.ka10_in_place.specs.Glide.{is_ready}
-use Rattle.ka10_in_place.specs.Once.{once}
+use Rattle.ka10_spots.specs.Glide.{is_ready}
+use Rattle.ka10_spots.specs.Once.{once}
 use Rattle.ka10_in_place.specs.InPlace.{Does}
 
 -- an address is one of its

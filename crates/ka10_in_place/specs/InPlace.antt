@@ -20,8 +20,8 @@ use Rattle.ka10_in_place.specs.declared.ending.Quick.TheVariants as quick
 use Rattle.ka10_deeds.specs.declared.done.Post.{Post}
 use Rattle.ka10_deeds.specs.declared.done.Post.TheVariants as post
 use Rattle.ka10_deeds.specs.Acts.{Instruction}
-use Rattle.ka10_in_place.specs.Glide.{glide}
-use Rattle.ka10_in_place.specs.Once.{After}
+use Rattle.ka10_spots.specs.Glide.{glide}
+use Rattle.ka10_spots.specs.Once.{After}
 
 -- a fact about a unit that was done, with the channel that it posts
 abbrev pub IfDone : Quick → (Option ℕ → Type 0) → Type 0

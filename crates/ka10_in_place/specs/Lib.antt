@@ -1,6 +1,3 @@
-pub mod Once
-pub mod Glide
-pub mod Spots
 pub mod Stores
 pub mod Targets
 pub mod InPlace

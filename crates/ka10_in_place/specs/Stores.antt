@@ -4,7 +4,7 @@ use Rattle.machine_names.specs.declared.names.ForkName.{ForkName}
 use Rattle.machine_names.specs.declared.names.Kind.TheVariants.{Read}
 use Rattle.plain_pages.specs.PlainPages.{NumberedPages}
 use Rattle.plain_units.specs.Deeds.{Store, nowhere, back, into, before}
-use Rattle.ka10_in_place.specs.Glide.{Takes}
+use Rattle.ka10_spots.specs.Glide.{Takes}
 
 -- no word is stored
 abbrev pub IsNowhere : Store → Type 0

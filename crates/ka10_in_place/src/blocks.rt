@@ -7,8 +7,8 @@ ghost use Rattle.ka10_in_place.specs.InPlace.{Addressee, Finish, InPlace};
 
 use crate::ending::{Quick, ended};
 use crate::instruction::Instruction;
-use crate::spots::{spot_to_write, store, take};
 use ka10_deeds::{Blt, HasDeed, word_in};
+use ka10_spots::{spot_to_write, store, take};
 use machine_names::Kind;
 use page_contracts::{Pages, SpaceHandle};
 use plain_units::Regs;

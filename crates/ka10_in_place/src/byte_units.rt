@@ -11,13 +11,12 @@ ghost use Rattle.page_contracts.specs.Pages.{HasSpace, OnlyUses};
 ghost use Rattle.ka10_in_place.specs.ByteRests.{PointsTo, begun, byte_rest, deposited_word, depositing, loaded_byte, loading};
 ghost use Rattle.ka10_in_place.specs.InPlace.{Addressee, InPlace, Rest};
 
-use crate::addressing::effective_address;
 use crate::ending::{Quick, ended};
 use crate::instruction::Instruction;
-use crate::spots::{load, spot_to_change, store, take};
 use ka10_deeds::{
     ByteStep, byte_step, do_deposit, do_first_part, do_increment, do_load, forget_first_part,
 };
+use ka10_spots::{effective_address, load, spot_to_change, store, take};
 use machine_names::Kind;
 use page_contracts::{Pages, SpaceHandle};
 use plain_units::Regs;

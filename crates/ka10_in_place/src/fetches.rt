@@ -6,12 +6,12 @@ ghost use Rattle.machine_names.specs.declared.names.TheConstants.{ACCUMULATORS, 
 ghost use Rattle.machine_names.specs.Bounds.{IsAddress};
 ghost use Rattle.page_contracts.specs.DrumWords.{DrumWords};
 ghost use Rattle.page_contracts.specs.Pages.{HasSpace, OnlyUses};
-ghost use Rattle.ka10_in_place.specs.Glide.{Takes};
+ghost use Rattle.ka10_spots.specs.Glide.{Takes};
 ghost use Rattle.ka10_in_place.specs.Fetches.{CanExecute, IsPage, IsThere, KeepsPage};
-ghost use Rattle.ka10_in_place.specs.Spots.{IsReached, UsesPage};
+ghost use Rattle.ka10_spots.specs.Spots.{IsReached, UsesPage};
 
 use crate::fetch_page::FetchPage;
-use crate::spots::page_of;
+use ka10_spots::page_of;
 use machine_names::{ACCUMULATORS, Kind, PAGE_ADDRESSES};
 use page_contracts::{Found, Pages, SpaceHandle};
 use plain_units::Regs;

@@ -4,12 +4,12 @@ ghost use Rattle.page_contracts.specs.Pages.{HasSpace};
 ghost use Rattle.ka10_in_place.specs.InPlace.{InPlace};
 ghost use Rattle.ka10_in_place.specs.Fetches.{FetchedUnit, IsThere};
 
-use crate::addressing::effective_address;
 use crate::dispatch::carry;
 use crate::ending::Quick;
 use crate::fetch_page::FetchPage;
 use crate::fetches::fetch;
 use ka10_deeds::{ac_field, opcode};
+use ka10_spots::effective_address;
 use page_contracts::{Pages, SpaceHandle};
 use plain_units::Regs;
 

@@ -1,9 +1,8 @@
 //! Units in place: done on the registers and pages of a fork at once, where each reference is ready as the pages are.
 //! To the layers above such a unit leaves what the plain machine's leaves, or nothing has changed; so do many in a row.
-//! Stands on `ka10_deeds` for what instructions do, and on `page_contracts` for the contract of pages.
+//! Stands on `ka10_spots` for the words of a space and `ka10_deeds` for what instructions do, and on `page_contracts` for the contract of pages.
 #![tactic(auto)]
 
-mod addressing;
 mod blocks;
 mod bursts;
 mod byte_units;
@@ -13,7 +12,6 @@ mod fetch_page;
 mod fetches;
 mod in_place;
 mod instruction;
-mod spots;
 mod ways;
 
 pub use bursts::burst;

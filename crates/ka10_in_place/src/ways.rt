@@ -9,8 +9,8 @@ ghost use Rattle.ka10_in_place.specs.Targets.{unstored, operand, place_of, targe
 
 use crate::ending::{Quick, ended};
 use crate::instruction::Instruction;
-use crate::spots::{load, spot_to_change, spot_to_write, store, take};
 use ka10_deeds::HasDeed;
+use ka10_spots::{load, spot_to_change, spot_to_write, store, take};
 use machine_names::Kind;
 use page_contracts::{Pages, SpaceHandle};
 use plain_units::Regs;

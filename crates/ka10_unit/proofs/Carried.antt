@@ -23,7 +23,7 @@ use Rattle.ka10_unit.specs.declared.taken.Taken.{Taken}
 use Rattle.ka10_unit.specs.Carrying.{Grows, StaysAway}
 use Rattle.ka10_unit.specs.Gathers.{Framed, Serves}
 use Rattle.page_contracts.specs.Pages.{MayLose}
-use Rattle.ka10_in_place.proofs.Stored.{lost_none, lost_on, makings_stored}
+use Rattle.ka10_spots.proofs.Stored.{lost_none, lost_on, makings_stored}
 use Rattle.ka10_unit.specs.Taking.{CanPut, IsOpenAt, Stands}
 
 -- a page that is in a frame, and of which nothing more is to be made, is found ready

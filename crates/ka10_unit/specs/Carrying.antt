@@ -12,7 +12,7 @@ use Rattle.plain_units.specs.Steps.{Ending, Progress, done, stopped, trap, need,
 use Rattle.plain_units.specs.Units.{unit_on}
 use Rattle.ka10_unit.specs.declared.slow.Outcome.{Outcome}
 use Rattle.ka10_unit.specs.declared.slow.Outcome.TheVariants as outcome
-use Rattle.ka10_in_place.specs.Once.{once}
+use Rattle.ka10_spots.specs.Once.{once}
 use Rattle.ka10_deeds.specs.Done.{channel_of}
 use Rattle.ka10_unit.specs.Gathers.{framed}
 use Rattle.ka10_unit.specs.Planning.{unit_over}

@@ -15,10 +15,10 @@ use Rattle.page_contracts.specs.Pages.{DropsFile, FileNames, FilesOne, IsOfFile}
 use Rattle.page_contracts.specs.Stores.{IsSound, StoreMeaning, free, place}
 use Rattle.plain_pages.specs.FilePages.{without_file}
 use Rattle.flat_pages.specs.FileSteps.{FileHas}
-use Rattle.flat_pages.specs.Serials.{serial_of}
+use Rattle.flat_tables.specs.Serials.{serial_of}
 use Rattle.flat_pages.proofs.Agreement.{tables_whole}
 use Rattle.flat_pages.proofs.FileEnds.{fewer_without}
-use Rattle.flat_pages.proofs.FiledHomes.{get_filed}
+use Rattle.flat_tables.proofs.FiledHomes.{get_filed}
 use Rattle.pager_walk.specs.PagedMaps.{name_at, name_of, nobody}
 use Rattle.paged_tables.specs.FiledSteps.{EmptiesFiled, PageStays, SetsFiled, SetsFilePage}
 use Rattle.paged_tables.specs.PagedSlots.{paged_slots}

@@ -9,7 +9,7 @@ use Rattle.page_contracts.specs.DrumWords.{DrumWords}
 use Rattle.page_contracts.specs.Pages.{StaysInCore}
 use Rattle.page_contracts.specs.Stores.{HomePlace, IsFreed, IsSound, StoreMeaning}
 use Rattle.plain_pages.specs.References.{without_fork}
-use Rattle.flat_pages.specs.Serials.{serial_of}
+use Rattle.flat_tables.specs.Serials.{serial_of}
 use Rattle.flat_pages.proofs.EmptyMaps.{core_on}
 use Rattle.pager_walk.specs.MapPages.{fork_at, index_of, root_at}
 use Rattle.pager_walk.proofs.NumberedMaps.{index_fork}

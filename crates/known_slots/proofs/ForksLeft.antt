@@ -16,9 +16,9 @@ use Rattle.pager_walk.specs.PagedMaps.{AreRooted, map_away}
 use Rattle.pager_walk.proofs.Ended.{root_is, whose}
 use Rattle.pager_walk.proofs.Looking.{taken_map, taken_within}
 use Rattle.pager_walk.proofs.NumberedMaps.{fork_within, index_is, searched}
-use Rattle.flat_pages.specs.declared.held_map.HeldMap.{HeldMap}
-use Rattle.flat_pages.specs.HeldMaps as flat
-use Rattle.flat_pages.specs.SlotTouches.{home_named}
+use Rattle.flat_tables.specs.declared.held_map.HeldMap.{HeldMap}
+use Rattle.flat_tables.specs.HeldMaps as flat
+use Rattle.flat_tables.specs.SlotTouches.{home_named}
 use Rattle.flat_pages.proofs.Ending.{ended_lives, ended_other, ended_own}
 use Rattle.paged_tables.specs.EndedForks.{EmptiesFork, fork_gone}
 use Rattle.paged_tables.specs.PagedSlots.{map_home_over}

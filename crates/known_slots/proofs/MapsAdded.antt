@@ -18,8 +18,8 @@ use Rattle.plain_pages.specs.declared.map.MapEntry.TheVariants.{Names}
 use Rattle.plain_pages.specs.declared.map.NewMap.{NewMap}
 use Rattle.share_table.specs.declared.pointer.Pointer.{Pointer}
 use Rattle.share_table.specs.declared.pointer.Pointer.TheVariants as pointer
-use Rattle.flat_pages.specs.Serials.{serial_of}
-use Rattle.flat_pages.specs.SlotTouches.{home_named}
+use Rattle.flat_tables.specs.Serials.{serial_of}
+use Rattle.flat_tables.specs.SlotTouches.{home_named}
 use Rattle.pager_walk.specs.declared.map_pages.MapPage.{MapPage}
 use Rattle.pager_walk.specs.declared.paged_entry.Looked.TheVariants.{Is, Refused}
 use Rattle.pager_walk.specs.declared.paged_entry.PagedEntry.{PagedEntry}

@@ -12,7 +12,7 @@ use Rattle.page_contracts.specs.declared.answers.Seen.TheVariants as seen
 use Rattle.page_contracts.specs.Pages.{DropsMap, IsOfMap, NamesPage}
 use Rattle.page_contracts.specs.Stores.{HomePlace, StoreMeaning, arrives, away_at, away_home, free, is_here, place}
 use Rattle.plain_pages.specs.declared.map.MapEntry.TheVariants.{Names}
-use Rattle.flat_pages.specs.SlotTouches.{home_named}
+use Rattle.flat_tables.specs.SlotTouches.{home_named}
 use Rattle.flat_pages.proofs.Telling.{named_home}
 use Rattle.pager_walk.specs.declared.map_pages.MapPage.{MapPage}
 use Rattle.pager_walk.specs.declared.paged_entry.Looked.{Looked}

@@ -14,9 +14,9 @@ use Rattle.page_contracts.specs.Stores.{HomePlace, IsSound, StoreMeaning, away, 
 use Rattle.plain_pages.specs.declared.map.MapEntry.TheVariants.{Names}
 use Rattle.plain_pages.specs.declared.map.NewEntry.{NewEntry}
 use Rattle.flat_pages.specs.FileSteps.{IsFiled}
-use Rattle.flat_pages.specs.Serials.{serial_of}
-use Rattle.flat_pages.specs.SlotTouches.{home_named}
-use Rattle.flat_pages.proofs.FiledHomes.{get_filed}
+use Rattle.flat_tables.specs.Serials.{serial_of}
+use Rattle.flat_tables.specs.SlotTouches.{home_named}
+use Rattle.flat_tables.proofs.FiledHomes.{get_filed}
 use Rattle.flat_pages.proofs.Telling.{named_home}
 use Rattle.pager_walk.specs.declared.map_pages.MapPage.{MapPage}
 use Rattle.pager_walk.specs.declared.paged_entry.Looked.{Looked}

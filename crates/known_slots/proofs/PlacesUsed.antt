@@ -18,7 +18,7 @@ use Rattle.pager_walk.specs.declared.chain_walk.Walked.TheVariants.{Along, Absen
 use Rattle.pager_walk.specs.MapPages.{index_of}
 use Rattle.pager_walk.specs.PagedMaps.{name_at, name_of}
 use Rattle.pager_walk.specs.Walks.{walk_at}
-use Rattle.flat_pages.proofs.FiledHomes.{get_filed}
+use Rattle.flat_tables.proofs.FiledHomes.{get_filed}
 use Rattle.paged_tables.specs.declared.known_page.KnownPage.{KnownPage}
 use Rattle.paged_tables.specs.declared.page_home.PageHome.TheVariants.{At}
 use Rattle.paged_tables.specs.KnownPages.{found_known, known_along, known_page}

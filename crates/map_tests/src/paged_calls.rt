@@ -1,8 +1,5 @@
-// Calls of pages over maps that are pages, each made where its condition holds.
+// Calls of pages, each made where its condition holds.
 ghost use Rattle.std.specs.Prelude.{◌≡◌};
-ghost use Rattle.paged_store.specs.StoreMeaning.{paged_meaning};
-ghost use Rattle.paged_tables.specs.PagedSlots.{paged_slots};
-ghost use Rattle.paged_tables.specs.PagedTables.{beside_of};
 ghost use Rattle.map_tests.specs.Counted.{AreCounted};
 
 use crate::made::made;
@@ -10,7 +7,7 @@ use crate::same::same;
 use known_slots::KnownSlots;
 use machine_names::{Access, FileNo, ForkName, Kind, PageName, Place, Slot, Tty};
 use outside::Drum;
-use page_contracts::{Completed, Need, Pages, Peeked, Room, Seen, Touch};
+use page_contracts::{Completed, Need, Pages, Peeked, Room, Seen, Store, Touch};
 use page_homes::FrameId;
 use paged_store::PagedStore;
 use plain_pages::{NewEntry, NewMap};
@@ -35,14 +32,30 @@ pub enum Came {
     Not,
 }
 
-/// Pages over maps that are pages, with how many forks of terminal 1 there are, and how often a page was settled.
+/// Pages of which is told whether a fork lives.
+pub trait ForkPages: Pages {
+    /// Whether a fork lives.
+    fn lives(&self, fork: ForkName) -> bool
+        ensures { result ≡ Self.means.lives self.now fork };
+}
+
+impl<S: Store> ForkPages for KnownSlots<S> {
+    fn lives(&self, fork: ForkName) -> bool {
+        KnownSlots::lives(self, fork)
+    }
+}
+
+/// Pages, with how many forks of terminal 1 there are, and how often a page was settled.
 #[derive(Drop)]
-pub struct PagedCalls {
-    pages: KnownSlots<PagedStore>,
+pub struct PagedCalls<P: ForkPages> {
+    pages: P,
     forks: u32,
     made: u64,
-    ghost counted: { AreCounted ((paged_slots paged_meaning (λ p. p.pages.store) (λ p. beside_of p.pages.tables)).forks_of pages) ((paged_slots paged_meaning (λ p. p.pages.store) (λ p. beside_of p.pages.tables)).serial pages) forks made },
+    ghost counted: { AreCounted P.means pages forks made },
 }
+
+/// Over maps that are pages, in frames and on a drum.
+pub type OverDrum = PagedCalls<KnownSlots<PagedStore>>;
 
 /// The fork of terminal 1 with a serial.
 pub fn first(serial: u32) -> ForkName
@@ -55,7 +68,7 @@ pub fn first(serial: u32) -> ForkName
 }
 
 /// No fork and no page, over so many frames.
-pub fn begun<R: Abort + AllocGlobal>(rt: &R, frames: u32, limit: u32) -> PagedCalls {
+pub fn begun<R: Abort + AllocGlobal>(rt: &R, frames: u32, limit: u32) -> OverDrum {
     if limit > 16384 {
         panic!(rt; "too many pages");
     }
@@ -70,16 +83,16 @@ pub fn begun<R: Abort + AllocGlobal>(rt: &R, frames: u32, limit: u32) -> PagedCa
 }
 
 /// A page of zeros is made at a slot that has none.
-pub fn make_zeros(rt: &impl Abort, pages: &mut PagedCalls, slot: Slot) {
+pub fn make_zeros<P: ForkPages>(rt: &impl Abort, pages: &mut PagedCalls<P>, slot: Slot) {
     let touch = pages.touch(slot, Kind::Write);
     same(rt, matches!(touch, Touch::Zero), true);
     same(rt, pages.refer(slot, Kind::Write), Came::Made);
 }
 
 /// The pages are let go. What they are made of is taken apart here alone, for all tests.
-pub fn let_go(_pages: PagedCalls) {}
+pub fn let_go(_pages: OverDrum) {}
 
-impl PagedCalls {
+impl<P: ForkPages> PagedCalls<P> {
     /// The fork of terminal 1 with a serial begins to live with an empty map, where there is room.
     pub fn add_empty(&mut self, serial: u32) -> bool {
         let fork = first(serial);

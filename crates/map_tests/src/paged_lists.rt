@@ -1,6 +1,6 @@
 // Calls by chance over maps that are pages, of which few are in frames, against plain lists.
 use crate::made::made;
-use crate::paged_calls::{Came, PagedCalls, begun, first, let_go};
+use crate::paged_calls::{Came, ForkPages, PagedCalls, begun, first, let_go};
 use crate::plain_maps::{FILED, FORKS, Plain, PlainMaps, SPACE, agrees, number};
 use crate::same::same_at;
 use machine_names::{Kind, Slot};
@@ -49,12 +49,12 @@ fn slot(at: usize) -> Slot {
 
 // The pages, and the lists that tell what they are.
 #[derive(Drop)]
-struct Both {
-    pages: PagedCalls,
+struct Both<P: ForkPages> {
+    pages: PagedCalls<P>,
     plain: PlainMaps,
 }
 
-impl Both {
+impl<P: ForkPages> Both<P> {
     // A fork begins to live.
     fn add(&mut self, number: usize, leader: Option<usize>) {
         let added = match leader {
@@ -278,7 +278,7 @@ impl Both {
 }
 
 // Calls by chance, behind each of which all is as the lists say.
-fn goes_on<D: Drum>(rt: &impl Abort, both: &mut Both, drum: &mut D) {
+fn goes_on<P: ForkPages, D: Drum>(rt: &impl Abort, both: &mut Both<P>, drum: &mut D) {
     let mut chance = 1972;
     for call in 0..10000 {
         chance = next(chance);
@@ -288,24 +288,34 @@ fn goes_on<D: Drum>(rt: &impl Abort, both: &mut Both, drum: &mut D) {
 }
 
 // Each page that the lists have comes in.
-fn all_come<D: Drum>(rt: &impl Abort, both: &mut Both, drum: &mut D) {
+fn all_come<P: ForkPages, D: Drum>(rt: &impl Abort, both: &mut Both<P>, drum: &mut D) {
     for at in 0..FORKS * SPACE {
         both.bring(rt, drum, at);
     }
 }
 
-#[test]
-fn maps_that_are_pages_are_plain_lists(rt: HostRuntime) {
-    let mut drum = made(&rt, SureDrum::new(rt.alloc(), MOST_HOMES));
+// Pages on which nothing was called yet are as the lists say, behind each call and at the end.
+fn are_plain_lists<P: ForkPages, D: Drum>(
+    rt: &impl Abort,
+    pages: PagedCalls<P>,
+    drum: &mut D,
+) -> PagedCalls<P> {
     let mut both = Both {
-        pages: begun(&rt, FRAMES, LIMIT),
+        pages,
         plain: PlainMaps::new(),
     };
-    goes_on(&rt, &mut both, &mut drum);
-    all_come(&rt, &mut both, &mut drum);
+    goes_on(rt, &mut both, drum);
+    all_come(rt, &mut both, drum);
     let Both {
         pages,
         plain: _plain,
     } = both;
-    let_go(pages);
+    pages
+}
+
+#[test]
+fn maps_that_are_pages_are_plain_lists(rt: HostRuntime) {
+    let mut drum = made(&rt, SureDrum::new(rt.alloc(), MOST_HOMES));
+    let pages = begun(&rt, FRAMES, LIMIT);
+    let_go(are_plain_lists(&rt, pages, &mut drum));
 }

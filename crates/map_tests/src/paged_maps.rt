@@ -1,6 +1,6 @@
 // Maps of forks that are pages, in frames and on a drum.
 use crate::made::made;
-use crate::paged_calls::{PagedCalls, begun, first, let_go, make_zeros};
+use crate::paged_calls::{ForkPages, PagedCalls, begun, first, let_go, make_zeros};
 use crate::same::same;
 use machine_names::{Kind, Slot};
 use outside::{Drum, SureDrum};
@@ -20,7 +20,7 @@ fn fifth(serial: u32) -> Slot {
 }
 
 // A fork, and one whose map follows it, in which a page of zeros is made and written.
-fn begins_with_a_page(rt: &impl Abort, pages: &mut PagedCalls) {
+fn begins_with_a_page<P: ForkPages>(rt: &impl Abort, pages: &mut PagedCalls<P>) {
     same(rt, pages.add_empty(1), true);
     same(rt, pages.add_following(2, 1), true);
     same(rt, pages.live(), 2);
@@ -30,7 +30,7 @@ fn begins_with_a_page(rt: &impl Abort, pages: &mut PagedCalls) {
 }
 
 // All frames are emptied.
-fn emptied<D: Drum>(pages: &mut PagedCalls, drum: &mut D) {
+fn emptied<P: ForkPages, D: Drum>(pages: &mut PagedCalls<P>, drum: &mut D) {
     for frame in 0..FRAMES {
         pages.evict(frame);
     }
@@ -40,7 +40,7 @@ fn emptied<D: Drum>(pages: &mut PagedCalls, drum: &mut D) {
 }
 
 // Whether a page may be read, once what stood in its way was brought in: four maps and a page at most.
-fn brought<D: Drum>(pages: &mut PagedCalls, drum: &mut D, at: Slot) -> bool {
+fn brought<P: ForkPages, D: Drum>(pages: &mut PagedCalls<P>, drum: &mut D, at: Slot) -> bool {
     for _way in 0..5 {
         if !pages.ask(at) {
             break;
@@ -51,7 +51,7 @@ fn brought<D: Drum>(pages: &mut PagedCalls, drum: &mut D, at: Slot) -> bool {
 }
 
 // The page of both has its word, and one name.
-fn is_of_both(rt: &impl Abort, pages: &PagedCalls) {
+fn is_of_both<P: ForkPages>(rt: &impl Abort, pages: &PagedCalls<P>) {
     let word = match pages.peek(fifth(1), 7) {
         Peeked::Is(word) => Some(word.value()),
         _ => None,
@@ -64,13 +64,18 @@ fn is_of_both(rt: &impl Abort, pages: &PagedCalls) {
     same(rt, named, Some((1, 1)));
 }
 
+// The page and its maps leave their frames, and come back.
+fn go_and_come<P: ForkPages, D: Drum>(rt: &impl Abort, pages: &mut PagedCalls<P>, drum: &mut D) {
+    begins_with_a_page(rt, pages);
+    emptied(pages, drum);
+    same(rt, brought(pages, drum, fifth(2)), true);
+    is_of_both(rt, pages);
+}
+
 #[test]
 fn maps_go_to_the_drum_and_come_back(rt: HostRuntime) {
     let mut drum = made(&rt, SureDrum::new(rt.alloc(), MOST_HOMES));
     let mut pages = begun(&rt, FRAMES, 16);
-    begins_with_a_page(&rt, &mut pages);
-    emptied(&mut pages, &mut drum);
-    same(&rt, brought(&mut pages, &mut drum, fifth(2)), true);
-    is_of_both(&rt, &pages);
+    go_and_come(&rt, &mut pages, &mut drum);
     let_go(pages);
 }

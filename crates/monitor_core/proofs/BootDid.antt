@@ -21,12 +21,12 @@ use Rattle.fork_tree.proofs.Kept.{none_tree}
 use Rattle.fork_tree.proofs.Slots.{in_none}
 use Rattle.fork_calls.specs.Holding.{Holds}
 use Rattle.monitor_core.specs.declared.panel.Panel.{Panel}
-use Rattle.monitor_core.specs.declared.job.Job.{Job}
+use Rattle.monitor_calls.specs.declared.job.Job.{Job}
 use Rattle.monitor_core.specs.declared.system.System.{System}
-use Rattle.monitor_core.specs.declared.typing.Typing.{Typing}
-use Rattle.monitor_core.specs.Jobs.{AreUnheld, map_from, plain_job, no_jobs, job_at, jobs_of}
-use Rattle.monitor_core.specs.Sound.{AreSound}
-use Rattle.monitor_core.specs.Typings.{new_typing, nothing_typed, typing_at}
+use Rattle.monitor_calls.specs.declared.typing.Typing.{Typing}
+use Rattle.monitor_calls.specs.Jobs.{AreUnheld, map_from, plain_job, no_jobs, job_at, jobs_of}
+use Rattle.monitor_calls.specs.Sound.{AreSound}
+use Rattle.monitor_calls.specs.Typings.{new_typing, nothing_typed, typing_at}
 use Rattle.monitor_core.specs.Systems.{named, state_of, FitsPages, IsWithin}
 use Rattle.plain_files.specs.NamedFiles.{AreFiled}
 use Rattle.machine_names.specs.Orders.{file_page_cmp, name_cmp}

@@ -8,14 +8,14 @@ use Rattle.plain_model.specs.declared.fork.Body.{Body}
 use Rattle.plain_model.specs.declared.fork.Fork.{Fork}
 use Rattle.script_texts.specs.declared.status.ForkStatus.TheVariants.{Run}
 use Rattle.plain_model.specs.Commands.{restarted}
-use Rattle.monitor_core.specs.Writing.{with_accumulator}
+use Rattle.monitor_calls.specs.Writing.{with_accumulator}
 use Rattle.plain_model.specs.Forks.{ForkMap}
 use Rattle.machine_names.proofs.OrderLemmas.{fork_cmp_total, fork_cmp_apart}
 use Rattle.plain_model.specs.Trees.{changed, with_body, with_mark, PlainTree, with_changed_of}
 use Rattle.fork_tree.specs.Changes.{with_body_of, with_mark_of}
 use Rattle.fork_tree.specs.Trees.{IsTree}
 use Rattle.fork_tree.proofs.Slots.{get_put, some_of}
-use Rattle.monitor_core.proofs.Maps.{insert_twice}
+use Rattle.monitor_calls.proofs.Maps.{insert_twice}
 
 -- the word is put where the fork lives
 pub poked_tree : (tree : PlainTree) (name : ForkName) (address word : ℕ) (b : Body) → Some b ≡ option_map (λ f. f.body) (map.get tree.forks name)

@@ -12,13 +12,13 @@ use Rattle.plain_model.specs.declared.fork.TerminalMode.{TerminalMode}
 use Rattle.plain_model.specs.declared.fork.TerminalMode.TheVariants.{Command, Program}
 use Rattle.plain_model.specs.State.{PlainJob, PlainState}
 use Rattle.plain_model.specs.TypeEvents.{interrupted, line_ended, line_of, line_typed, typed_at, typed_one, typed_so}
-use Rattle.monitor_core.specs.declared.job.Job.{Job}
+use Rattle.monitor_calls.specs.declared.job.Job.{Job}
 use Rattle.monitor_core.specs.declared.system.System.{System}
 use Rattle.monitor_core.specs.Effects.{Has, HasJobAt, job_in}
 use Rattle.monitor_core.specs.Systems.{state_of}
 use Rattle.monitor_core.proofs.HasDone.{has_as, has_left}
 use Rattle.fork_calls.proofs.Places.{came_itself}
-use Rattle.monitor_core.specs.Jobs.{job_at}
+use Rattle.monitor_calls.specs.Jobs.{job_at}
 use Rattle.monitor_core.specs.Echoes.{echo_items}
 use Rattle.monitor_core.specs.declared.echo.Echo.TheVariants.{Nothing}
 use Rattle.monitor_core.proofs.TypeDid.{types_at, types_nowhere}

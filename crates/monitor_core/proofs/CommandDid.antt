@@ -26,7 +26,7 @@ use Rattle.plain_model.specs.TypeEvents.{interrupted, line_typed, stored, typed_
 use Rattle.plain_typing.specs.declared.typed.Typed.{Typed}
 use Rattle.plain_typing.specs.declared.typed.Typed.TheVariants.{ControlC, Stored}
 use Rattle.script_texts.specs.declared.event.Item.{Item}
-use Rattle.monitor_core.specs.declared.typing.Typing.{Typing}
+use Rattle.monitor_calls.specs.declared.typing.Typing.{Typing}
 use Rattle.monitor_core.specs.declared.echo.Echo.{Echo}
 use Rattle.monitor_core.specs.declared.echo.Echo.TheVariants.{Shows, Stops, Wakes}
 use Rattle.monitor_core.specs.Effects.{Has, stopped_tree}
@@ -38,15 +38,15 @@ use Rattle.plain_model.specs.declared.fork.TerminalMode.{TerminalMode}
 use Rattle.job_commands.specs.Going.{can_continue}
 use Rattle.monitor_core.specs.declared.echo.Complaint.TheVariants.{Cannot}
 use Rattle.monitor_core.specs.declared.echo.Told.TheVariants.{Nothing, Refused}
-use Rattle.monitor_core.specs.declared.job.Job.{Job}
+use Rattle.monitor_calls.specs.declared.job.Job.{Job}
 use Rattle.monitor_core.specs.declared.system.System.{System}
 use Rattle.monitor_core.specs.Echoes.{echo_items, told_items}
 use Rattle.monitor_core.specs.Effects.{HasJobAt, job_in}
-use Rattle.monitor_core.specs.Jobs.{jobs_of}
-use Rattle.monitor_core.specs.Limits.{FitsForced}
+use Rattle.monitor_calls.specs.Jobs.{jobs_of}
+use Rattle.monitor_calls.specs.Limits.{FitsForced}
 use Rattle.monitor_core.specs.Systems.{named, state_of}
-use Rattle.monitor_core.specs.Typings.{typing_at}
-use Rattle.monitor_core.proofs.Lookups.{jobs_set}
+use Rattle.monitor_calls.specs.Typings.{typing_at}
+use Rattle.monitor_calls.proofs.Lookups.{jobs_set}
 use Rattle.monitor_core.proofs.Systems.{change_is, restarted_body, state_left}
 use Rattle.monitor_core.proofs.TypeDid.{interrupts, lengthens, low_job, stores, takes_line}
 

@@ -12,7 +12,7 @@ use Rattle.plain_model.specs.Trees.{PlainTree}
 use Rattle.monitor_core.specs.declared.echo.Complaint.TheVariants as complaint
 use Rattle.monitor_core.specs.declared.echo.Told.{Told}
 use Rattle.monitor_core.specs.declared.echo.Told.TheVariants.{Prompt, Refused, Files}
-use Rattle.monitor_core.specs.declared.job.Job.{Job}
+use Rattle.monitor_calls.specs.declared.job.Job.{Job}
 use Rattle.monitor_core.specs.declared.system.System.{System}
 use Rattle.monitor_core.specs.Echoes.{told_items}
 use Rattle.monitor_core.specs.Effects.{Has, job_in}

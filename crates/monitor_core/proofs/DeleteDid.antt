@@ -26,18 +26,18 @@ use Rattle.plain_model.specs.Trees.{PlainTree}
 use Rattle.fork_calls.proofs.Places.{came_itself}
 use Rattle.file_tables.specs.Tables.{IsThere, OpenStay, files_of, open_of}
 use Rattle.file_tables.proofs.Names.{name_apart, name_total, named, not_both, numbers_gone}
-use Rattle.monitor_core.specs.ForkUnit.{NumbersStay}
+use Rattle.monitor_calls.specs.ForkUnit.{NumbersStay}
 use Rattle.monitor_core.specs.declared.echo.Complaint.TheVariants.{Busy}
 use Rattle.monitor_core.specs.declared.echo.Told.TheVariants.{Prompt, Refused}
 use Rattle.monitor_core.specs.declared.system.System.{System}
 use Rattle.monitor_core.specs.Echoes.{told_items}
 use Rattle.monitor_core.specs.Effects.{Has}
-use Rattle.monitor_core.specs.Jobs.{jobs_of}
+use Rattle.monitor_calls.specs.Jobs.{jobs_of}
 use Rattle.monitor_core.specs.Systems.{FitsPages, named as named_pages, state_of}
 use Rattle.monitor_core.proofs.FileDid.{file_there}
 use Rattle.monitor_core.proofs.HasDone.{has_so}
-use Rattle.monitor_core.proofs.JfnsAsked.{times_as}
-use Rattle.monitor_core.proofs.NamedKeys.{AreUnder, There, filed_now, keyed_named, name_there, named_now, number_in, number_there}
+use Rattle.monitor_calls.proofs.JfnsAsked.{times_as}
+use Rattle.monitor_calls.proofs.NamedKeys.{AreUnder, There, filed_now, keyed_named, name_there, named_now, number_in, number_there}
 use Rattle.monitor_core.proofs.Systems.{fits_left}
 
 module _ (m : Files) (a : AreNumbers m) (f : ℕ) (name : List ℕ) (is : map.get m f ≡ Some name) (p : NumberedPages) (filed : AreFiled m p.files) where

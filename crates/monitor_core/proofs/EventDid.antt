@@ -29,16 +29,16 @@ use Rattle.plain_model.proofs.Equations.{apply_outer, outer_login, outer_tick}
 use Rattle.plain_pages.proofs.Refiled.{live_refiled}
 use Rattle.fork_tree.specs.Making.{with_new_in}
 use Rattle.monitor_core.specs.declared.panel.Panel.{Panel}
-use Rattle.monitor_core.specs.declared.job.Job.{Job}
+use Rattle.monitor_calls.specs.declared.job.Job.{Job}
 use Rattle.monitor_core.specs.declared.reply.Reply.TheVariants.{Nothing, One}
 use Rattle.monitor_core.specs.declared.system.System.{System}
-use Rattle.monitor_core.specs.Jobs.{jobs_of, job_at, plain_job}
-use Rattle.monitor_core.specs.Typings.{new_typing}
+use Rattle.monitor_calls.specs.Jobs.{jobs_of, job_at, plain_job}
+use Rattle.monitor_calls.specs.Typings.{new_typing}
 use Rattle.plain_files.specs.NamedFiles.{pages_named}
 use Rattle.plain_files.specs.OpenFiles.{open_at}
 use Rattle.file_tables.specs.Tables.{files_of, open_of}
 use Rattle.monitor_core.specs.Systems.{named, state_of, FitsPages, Did}
-use Rattle.monitor_core.proofs.Lookups.{job_found, job_missing, jobs_put}
+use Rattle.monitor_calls.proofs.Lookups.{job_found, job_missing, jobs_put}
 use Rattle.monitor_core.proofs.Sleepers.{sleepers_keep}
 use Rattle.monitor_core.proofs.Systems.{fits_left, fits_still, units_changed}
 use Rattle.monitor_core.proofs.Rooms.{room_le, no_room_le, live_map, has_room}

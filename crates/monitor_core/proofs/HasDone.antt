@@ -24,17 +24,17 @@ use Rattle.fork_calls.proofs.Places.{IsMild, Keep, changed_keeps}
 use Rattle.fork_calls.proofs.Tops.{same_tops as still_tops}
 use Rattle.job_commands.specs.Leaving.{LogoutLeaves}
 use Rattle.monitor_core.specs.declared.panel.Panel.{Panel}
-use Rattle.monitor_core.specs.declared.job.Job.{Job}
+use Rattle.monitor_calls.specs.declared.job.Job.{Job}
 use Rattle.monitor_core.specs.declared.system.System.{System}
 use Rattle.monitor_core.specs.Effects.{Has, job_in}
-use Rattle.monitor_core.specs.Typings.{typing_at}
+use Rattle.monitor_calls.specs.Typings.{typing_at}
 use Rattle.file_tables.specs.Tables.{open_of}
 use Rattle.file_tables.specs.declared.tables.FileTables.{FileTables}
 use Rattle.plain_files.specs.NamedFiles.{open_named}
-use Rattle.monitor_core.specs.Jobs.{AreUnheld, job_at, plain_job}
-use Rattle.monitor_core.specs.Sound.{AreSound}
+use Rattle.monitor_calls.specs.Jobs.{AreUnheld, job_at, plain_job}
+use Rattle.monitor_calls.specs.Sound.{AreSound}
 use Rattle.monitor_core.specs.Systems.{FitsPages, state_of}
-use Rattle.monitor_core.proofs.Sounds.{SameTops}
+use Rattle.monitor_calls.proofs.Sounds.{SameTops}
 use Rattle.monitor_core.proofs.Systems.{fits_still, state_left}
 
 -- ---- effects

@@ -38,27 +38,27 @@ use Rattle.machine_names.specs.Orders.{name_cmp}
 use Rattle.plain_units.proofs.RefiledUnits.{stored_leaves}
 use Rattle.fork_tree.specs.Trees.{IsTree}
 use Rattle.monitor_core.specs.declared.panel.Panel.{Panel}
-use Rattle.monitor_core.specs.declared.job.Job.{Job}
+use Rattle.monitor_calls.specs.declared.job.Job.{Job}
 use Rattle.monitor_core.specs.declared.job_event.JobEvent.{JobEvent}
 use Rattle.monitor_core.specs.declared.job_event.JobEvent.TheVariants.{Poke as ToPoke, Start as ToStart, Examine as ToExamine, Forks as ToShow}
 use Rattle.monitor_core.specs.declared.reply.Reply.{Reply}
 use Rattle.monitor_core.specs.declared.reply.Reply.TheVariants.{Nothing, One, Forks}
 use Rattle.monitor_core.specs.declared.system.System.{System}
 use Rattle.monitor_core.specs.JobEvents.{event_at}
-use Rattle.monitor_core.specs.Jobs.{jobs_of, job_at, plain_job}
-use Rattle.monitor_core.specs.Typings.{typing_at}
+use Rattle.monitor_calls.specs.Jobs.{jobs_of, job_at, plain_job}
+use Rattle.monitor_calls.specs.Typings.{typing_at}
 use Rattle.monitor_core.specs.Looking.{word_in, examined_in, item_of}
 use Rattle.monitor_core.specs.Replies.{reply_items, FitsReply}
 use Rattle.plain_files.specs.NamedFiles.{pages_named}
 use Rattle.plain_files.specs.OpenFiles.{open_at}
 use Rattle.file_tables.specs.Tables.{files_of, open_of}
 use Rattle.monitor_core.specs.Systems.{named, state_of, FitsPages, Did}
-use Rattle.monitor_core.specs.declared.writing.Barred.{Barred}
-use Rattle.monitor_core.specs.declared.writing.Barred.TheVariants.{ByMap, ByDrum}
-use Rattle.monitor_core.specs.Writing.{write_of, left_by, poke_refusal, refused_by, IsWritten, Makes, Writes, with_accumulator}
+use Rattle.monitor_calls.specs.declared.writing.Barred.{Barred}
+use Rattle.monitor_calls.specs.declared.writing.Barred.TheVariants.{ByMap, ByDrum}
+use Rattle.monitor_calls.specs.Writing.{write_of, left_by, poke_refusal, refused_by, IsWritten, Makes, Writes, with_accumulator}
 use Rattle.monitor_core.proofs.Looks.{below, not_below}
-use Rattle.monitor_core.proofs.Lookups.{job_found, job_missing, jobs_set}
-use Rattle.monitor_core.proofs.Sounds.{split_at}
+use Rattle.monitor_calls.proofs.Lookups.{job_found, job_missing, jobs_set}
+use Rattle.monitor_calls.proofs.Sounds.{split_at}
 use Rattle.monitor_core.proofs.Systems.{change_is, fits_left, fits_still, serials_made, state_left, units_change}
 use Rattle.monitor_core.proofs.Filed.{NamedFiles, keyed, reference_keyed}
 use Rattle.monitor_core.proofs.NamedPages.{alike_named, named_left}

@@ -19,12 +19,12 @@ use Rattle.fork_tree.specs.Making.{with_new, with_new_in}
 use Rattle.fork_tree.specs.Trees.{IsTree}
 use Rattle.monitor_core.specs.declared.echo.Echo.{Echo}
 use Rattle.monitor_core.specs.declared.echo.Echo.TheVariants.{Shows, Wakes}
-use Rattle.monitor_core.specs.declared.job.Job.{Job}
+use Rattle.monitor_calls.specs.declared.job.Job.{Job}
 use Rattle.monitor_core.specs.Reaching.{EchoReaches}
 use Rattle.monitor_core.specs.declared.system.System.{System}
 use Rattle.monitor_core.specs.Effects.{stopped_tree}
-use Rattle.monitor_core.specs.Jobs.{job_at}
-use Rattle.monitor_core.proofs.ReachDid.{others_same}
+use Rattle.monitor_calls.specs.Jobs.{job_at}
+use Rattle.monitor_calls.proofs.ReachDid.{others_same}
 
 module _ {P : Type 0} {b : _} (m : System P b) (t : Tty) (j : Job) (at : job_at m.jobs.items t.0 ≡ Some j) where
   -- its top fork is of the terminal

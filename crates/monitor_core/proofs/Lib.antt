@@ -1,35 +1,14 @@
 pub mod Gave
-mod Making
 mod Looks
-mod Writes
 mod Given
-mod Maps
-mod MapFrom
-mod Lookups
 mod Rooms
 mod Filed
 mod Inspected
-mod Kills
 mod NamedPages
 mod FileReferences
-mod ShownWords
 mod FileDid
-mod Silent
-mod UnitRan
-mod UnitRows
-mod Keeping
 mod Told
-mod Leaving
-mod Stopping
-mod Calling
-mod NamedKeys
-mod JfnsAsked
-mod JfnTurns
-mod MapTurns
-mod ByteTurns
-mod CodeTurns
 mod Changing
-mod Sounds
 mod Systems
 mod Running
 mod CallerStays
@@ -59,8 +38,6 @@ mod GivenParts
 mod Listed
 mod Typed
 mod TypedIn
-mod MadeBeside
-mod ReachDid
 mod Sleepers
 mod JobOthers
 pub mod ListsTied

@@ -24,7 +24,6 @@ use Rattle.fork_lists.specs.Following.{stopped_if}
 use Rattle.fork_lists.specs.Ties.{AreTied, CanFollow, CanFollowAll, Follows, FollowsAll, IsTiedAt, is_filled}
 use Rattle.fork_lists.proofs.Folds.{any_among, stop_filled, stop_gone, stop_one, stop_other}
 use Rattle.fork_lists.proofs.Chosen.{filled_test, test_filled}
-use Rattle.fork_lists.proofs.Nearing.{stop_keeps}
 use Rattle.fork_lists.proofs.Tied.{at_slot, runs_lives, some_is}
 
 module _ (old : ForkMap) (slotted : AreSlotted old) (l : ForkLists) (tied : AreTied old l) where
@@ -63,7 +62,6 @@ module _ (old : ForkMap) (slotted : AreSlotted old) (l : ForkLists) (tied : AreT
         }
       ];
       filled = filled_test m.sched (follows.filled (test_filled l.sched tied.filled));
-      calm = follows.calm tied.calm;
     }
 
   -- where the same forks live, all jobs can be followed
@@ -74,7 +72,7 @@ module _ (old : ForkMap) (slotted : AreSlotted old) (l : ForkLists) (tied : AreT
   }
 
   pub tied_all : (new : ForkMap) (m : ForkLists) → FollowsAll new l m → AreTied new m
-  tied_all new m follows = record { each = follows.each; filled = filled_test m.sched (follows.filled (test_filled l.sched tied.filled)); calm = follows.calm tied.calm }
+  tied_all new m follows = record { each = follows.each; filled = filled_test m.sched (follows.filled (test_filled l.sched tied.filled)) }
 
 -- one fork alone has another body
 module _ (old new : PlainTree) (trees : IsTree old) (still : IsTree new) (who : ForkName) (slot : ℕ) (f : Fork) (there : IsIn old.forks who.tty slot f) (named : f.name ≡ who)
@@ -130,7 +128,6 @@ module _ (old new : PlainTree) (trees : IsTree old) (still : IsTree new) (who : 
       ];
     };
     filled = ap is_filled sched ∙ filled_test (stopped_if new.forks (Some who) l.sched) (stop_filled new.forks (Some who) l.sched (test_filled l.sched tied.filled));
-    calm = ap (λ (s : Schedule). s.waiting) sched ∙ stop_keeps new.forks (Some who) l.sched tied.calm;
   }
     where
       elsewhere : (u : Tty) (k : ℕ) → u.0 < TERMINALS → 1 ≤ k → k ≤ MOST_FORKS → (u.0 ≢ who.tty.0) ⊎ (k ≢ slot) → seen_in m.seen.items u k ≡ seen_of (fork_in new.forks u k)

@@ -21,12 +21,12 @@ use Rattle.fork_tree.specs.Trees.{IsTree}
 use Rattle.fork_tree.proofs.Kept.{name_unused}
 use Rattle.fork_tree.proofs.Slots.{get_put, get_put_other, in_none}
 use Rattle.fork_calls.proofs.Added.{added_holds, few_forks}
-use Rattle.monitor_core.specs.declared.job.Job.{Job}
+use Rattle.monitor_calls.specs.declared.job.Job.{Job}
 use Rattle.plain_files.specs.OpenFiles.{OpenFiles}
-use Rattle.monitor_core.specs.Jobs.{AreUnheld, job_at}
-use Rattle.monitor_core.specs.Limits.{IsBody}
-use Rattle.monitor_core.specs.Sound.{AreSound}
-use Rattle.monitor_core.proofs.Sounds.{lives_now}
+use Rattle.monitor_calls.specs.Jobs.{AreUnheld, job_at}
+use Rattle.monitor_calls.specs.Limits.{IsBody}
+use Rattle.monitor_calls.specs.Sound.{AreSound}
+use Rattle.monitor_calls.proofs.Sounds.{lives_now}
 
 -- a fork is made where no slot is in use
 module _ (tree : PlainTree) (t : Tty) (none : fork_in tree.forks t 1 ≡ None) where

@@ -54,10 +54,10 @@ closer_fair c s steps c' all f before (x ∷ xs) after is over =
     let near = near_first there.0 (state_after s before) (x ∷ (xs ++ after)) c' there.1 f over.0 in
     omega (arith, few, near)
 
--- where the lists have the forks that can run, these stand in line
-pub tied_line : (forks : ForkMap) (l : ForkLists) → AreTied forks l → (f : ForkName) → IsRunnable forks f → is_in_line f l.sched ≡ true
-tied_line forks l tied f runs = in_line f l.sched tied.calm ((tied.each f.tty).listed f refl ∙ runs)
+-- where the lists have the forks that can run and none is in page wait, these stand in line
+pub tied_line : (forks : ForkMap) (l : ForkLists) → AreTied forks l → l.sched.waiting ≡ [] → (f : ForkName) → IsRunnable forks f → is_in_line f l.sched ≡ true
+tied_line forks l tied calm f runs = in_line f l.sched calm ((tied.each f.tty).listed f refl ∙ runs)
 
 -- and are near
-pub near_tied : (forks : ForkMap) (l : ForkLists) → AreTied forks l → IsSound l.sched → AreNear forks l.sched
-near_tied forks l tied sound f runs = few f l.sched sound (tied_line forks l tied f runs)
+pub near_tied : (forks : ForkMap) (l : ForkLists) → AreTied forks l → l.sched.waiting ≡ [] → IsSound l.sched → AreNear forks l.sched
+near_tied forks l tied calm sound f runs = few f l.sched sound (tied_line forks l tied calm f runs)

@@ -20,16 +20,16 @@ use Rattle.machine_names.proofs.OrderLemmas.{fork_cmp_total, fork_cmp_apart}
 use Rattle.plain_model.proofs.Runs.{AreLegal-append, items_of-append, state_after-append}
 use Rattle.plain_model.specs.Trees.{changed, tree_of, with_body}
 use Rattle.plain_model.proofs.ForkMaps.{cases_name}
-use Rattle.ka10_in_place.specs.Once.{After, in_a_row, once}
+use Rattle.ka10_spots.specs.Once.{After, in_a_row, once}
 use Rattle.fork_tree.proofs.Kept.{changed_tree}
 use Rattle.fork_tree.proofs.Slots.{get_put}
-use Rattle.monitor_core.specs.ForkUnit.{Behind, RanUnits, Rest, behind_unit, left_so, put_in, ran_on}
+use Rattle.monitor_calls.specs.ForkUnit.{Behind, RanUnits, Rest, behind_unit, left_so, put_in, ran_on}
 use Rattle.monitor_core.specs.Replies.{line_items, ran_items}
-use Rattle.monitor_core.specs.Shown.{nothing, seen_of, shown_items}
+use Rattle.monitor_calls.specs.Shown.{nothing, seen_of, shown_items}
 use Rattle.fork_calls.proofs.Frozen.{still_frozen}
 use Rattle.fork_calls.proofs.OtherRuns.{body_runs}
-use Rattle.monitor_core.proofs.Maps.{insert_again, insert_twice}
-use Rattle.monitor_core.proofs.Silent.{once_as, row_more, silent_unit}
+use Rattle.monitor_calls.proofs.Maps.{insert_again, insert_twice}
+use Rattle.monitor_calls.proofs.Silent.{once_as, row_more, silent_unit}
 use Rattle.monitor_core.proofs.Filed.{AreKept, IsIn, NamedFiles, kept_on, kept_once, kept_still, keyed, unit_files}
 use Rattle.monitor_core.proofs.UnitEffect.{Runs, behind_state, effect_of, lined, rest_in_state, step_as, step_legal}
 

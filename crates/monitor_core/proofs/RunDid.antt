@@ -5,8 +5,8 @@ use Rattle.std.specs.Option.{option_map_or}
 use Rattle.std.specs.Ordering.{nat_cmp}
 use Rattle.std.specs.Cmp.{nat_cmp_total}
 use Rattle.number_map.proofs.Keys.{get_gone, get_gone_other}
-use Rattle.monitor_core.specs.declared.typing.Typing.{Typing}
-use Rattle.monitor_core.specs.Typings.{typing_at}
+use Rattle.monitor_calls.specs.declared.typing.Typing.{Typing}
+use Rattle.monitor_calls.specs.Typings.{typing_at}
 use Rattle.std.specs.FinMap as fin
 use Rattle.std.proofs.lemmas.Bool.{cases_eq}
 use Rattle.word36.specs.Words.{right}
@@ -37,16 +37,16 @@ use Rattle.job_commands.specs.Leaving.{LogoutLeaves, RunLeaves}
 use Rattle.job_commands.specs.Programs.{IsRun, first_page}
 use Rattle.monitor_core.specs.declared.echo.Complaint.TheVariants.{NoProgram}
 use Rattle.monitor_core.specs.declared.echo.Told.TheVariants.{Nothing, Refused}
-use Rattle.monitor_core.specs.declared.job.Job.{Job}
+use Rattle.monitor_calls.specs.declared.job.Job.{Job}
 use Rattle.monitor_core.specs.declared.system.System.{System}
 use Rattle.monitor_core.specs.Echoes.{told_items}
 use Rattle.monitor_core.specs.Effects.{Has, HasJobAt, job_in}
-use Rattle.monitor_core.specs.Jobs.{job_at, jobs_of, plain_job}
+use Rattle.monitor_calls.specs.Jobs.{job_at, jobs_of, plain_job}
 use Rattle.monitor_core.specs.Systems.{FitsPages, named, state_of}
 use Rattle.monitor_core.proofs.CommandPages.{killed_leaves, killed_same, run_leaves, run_same}
 use Rattle.monitor_core.proofs.FileDid.{file_there}
 use Rattle.monitor_core.proofs.HasDone.{has_so}
-use Rattle.monitor_core.proofs.Lookups.{job_found, job_missing, jobs_put}
+use Rattle.monitor_calls.proofs.Lookups.{job_found, job_missing, jobs_put}
 use Rattle.monitor_core.proofs.NamedPages.{alike_named, named_left}
 use Rattle.monitor_core.proofs.Systems.{fits_left}
 use Rattle.monitor_core.proofs.TypeDid.{low_job, low_typed}

@@ -25,9 +25,9 @@ use Rattle.monitor_core.specs.declared.machine.Machine.{Machine}
 use Rattle.monitor_core.specs.declared.system.System.{System}
 use Rattle.monitor_core.specs.declared.reply.Reply.{Reply}
 use Rattle.monitor_core.specs.declared.reply.Reply.TheVariants.{Nothing, One, Ran, Forks, Page}
-use Rattle.monitor_core.specs.declared.shown.Stop.{Stop}
-use Rattle.monitor_core.specs.declared.shown.Stop.TheVariants.{GoesOn as Runs, Halted, Forced}
-use Rattle.monitor_core.specs.Shown.{none_shown, stop_items}
+use Rattle.monitor_calls.specs.declared.shown.Stop.{Stop}
+use Rattle.monitor_calls.specs.declared.shown.Stop.TheVariants.{GoesOn as Runs, Halted, Forced}
+use Rattle.monitor_calls.specs.Shown.{none_shown, stop_items}
 use Rattle.monitor_core.specs.Acts.{Given, GivenTurns, Cut, Acted, TookTurns}
 use Rattle.monitor_core.specs.PassedOver.{AreNear, ComeCloser}
 use Rattle.monitor_core.specs.Giving.{TookOver}

@@ -11,22 +11,22 @@ use Rattle.machine_names.specs.declared.names.TheConstants.{ACCUMULATORS}
 use Rattle.plain_model.specs.Commands.{restarted}
 use Rattle.machine_names.specs.declared.names.Tty.{Tty}
 use Rattle.std.proofs.lemmas.Bool.{cases_eq}
-use Rattle.monitor_core.specs.Writing.{Makes, most_makings, with_accumulator}
+use Rattle.monitor_calls.specs.Writing.{Makes, most_makings, with_accumulator}
 use Rattle.fork_tree.specs.Trees.{IsTree, Lives}
 use Rattle.fork_tree.proofs.Slots.{held_lives}
-use Rattle.monitor_core.specs.declared.job.Job.{Job}
+use Rattle.monitor_calls.specs.declared.job.Job.{Job}
 use Rattle.monitor_core.specs.declared.system.System.{System}
-use Rattle.monitor_core.specs.Holding.{Holds}
+use Rattle.monitor_calls.specs.Holding.{Holds}
 use Rattle.page_contracts.specs.DrumWords.{DrumWords}
 use Rattle.plain_files.specs.OpenFiles.{OpenFiles}
 use Rattle.plain_files.specs.NamedFiles.{AreFiled}
 use Rattle.file_tables.specs.declared.tables.FileTables.{FileTables}
 use Rattle.file_tables.specs.Tables.{files_of, open_of}
-use Rattle.monitor_core.specs.Jobs.{AreUnheld, job_at, jobs_of}
+use Rattle.monitor_calls.specs.Jobs.{AreUnheld, job_at, jobs_of}
 use Rattle.monitor_core.specs.Systems.{FitsPages, IsWithin, named, state_of}
-use Rattle.monitor_core.specs.Limits.{IsBody}
-use Rattle.monitor_core.specs.Sound.{AreSound}
-use Rattle.monitor_core.proofs.Sounds.{SameTops, lives_now, same_tops, sound_change, sound_same, split_at}
+use Rattle.monitor_calls.specs.Limits.{IsBody}
+use Rattle.monitor_calls.specs.Sound.{AreSound}
+use Rattle.monitor_calls.proofs.Sounds.{SameTops, lives_now, same_tops, sound_change, sound_same, split_at}
 
 -- what a map of one value gives
 pub mapped_some : {X Y : Type 0} (f : X → Y) (o : Option X) (y : Y) → option_map f o ≡ Some y → (x : X) × (o ≡ Some x) × (f x ≡ y)

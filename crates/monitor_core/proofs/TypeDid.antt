@@ -20,15 +20,15 @@ use Rattle.plain_model.specs.Unit.{Effect}
 use Rattle.file_tables.specs.Tables.{files_of, open_of}
 use Rattle.monitor_core.specs.declared.echo.Echo.TheVariants.{Shows, Stops, Ends}
 use Rattle.monitor_core.specs.declared.echo.Told.{Told}
-use Rattle.monitor_core.specs.declared.job.Job.{Job}
+use Rattle.monitor_calls.specs.declared.job.Job.{Job}
 use Rattle.monitor_core.specs.declared.system.System.{System}
-use Rattle.monitor_core.specs.declared.typing.Typing.{Typing}
+use Rattle.monitor_calls.specs.declared.typing.Typing.{Typing}
 use Rattle.monitor_core.specs.Echoes.{echo_items, told_items}
 use Rattle.monitor_core.specs.Effects.{Has, HasJobAt, job_in, stopped_tree}
-use Rattle.monitor_core.specs.Jobs.{jobs_of, job_at, plain_job}
+use Rattle.monitor_calls.specs.Jobs.{jobs_of, job_at, plain_job}
 use Rattle.monitor_core.specs.Systems.{named, state_of}
-use Rattle.monitor_core.specs.Typings.{typing_at}
-use Rattle.monitor_core.proofs.Lookups.{job_found, job_missing, jobs_put, jobs_typed}
+use Rattle.monitor_calls.specs.Typings.{typing_at}
+use Rattle.monitor_calls.proofs.Lookups.{job_found, job_missing, jobs_put, jobs_typed}
 use Rattle.monitor_core.proofs.Systems.{change_is}
 
 module _ {P : Type 0} {b : _} (m m' : System P b) (t : Tty) (j : Job) (at : HasJobAt m t j) where

@@ -19,18 +19,18 @@ use Rattle.plain_model.specs.State.{PlainJob}
 use Rattle.plain_model.specs.TypeEvents.{typed_all}
 use Rattle.plain_model.specs.Unit.{Effect, refused}
 use Rattle.plain_model.proofs.Equations.{apply_outer, outer_type_in}
-use Rattle.monitor_core.specs.declared.job.Job.{Job}
+use Rattle.monitor_calls.specs.declared.job.Job.{Job}
 use Rattle.monitor_core.specs.declared.machine.Machine.{Machine}
 use Rattle.monitor_core.specs.declared.system.System.{System}
 use Rattle.monitor_core.specs.Acts.{Acted, Cut, Given, TookText}
 use Rattle.monitor_core.specs.Giving.{StaysTaker, Takes}
-use Rattle.monitor_core.specs.Jobs.{job_at}
+use Rattle.monitor_calls.specs.Jobs.{job_at}
 use Rattle.monitor_core.specs.Machines.{Fits, auto, done, is_live, plain}
 use Rattle.monitor_core.specs.Systems.{FitsPages, state_of}
 use Rattle.monitor_core.proofs.Given.{on_err, taker_failed, taker_then, takes_then}
 use Rattle.monitor_core.proofs.PassedOver.{few_fair}
 use Rattle.monitor_core.proofs.GivenParts.{no_ok}
-use Rattle.monitor_core.proofs.Lookups.{job_found, job_missing}
+use Rattle.monitor_calls.proofs.Lookups.{job_found, job_missing}
 
 module _ {P : Type 0} {b : _} (m : System P b) (t : Tty) (text : List ℕ) (d : DrumWords) where
   -- without a job it is refused

@@ -26,21 +26,21 @@ use Rattle.fork_calls.specs.Limits.{AreWithin}
 use Rattle.fork_calls.proofs.Holdings.{holds_same}
 use Rattle.fork_calls.proofs.Places.{Keep, keep_itself}
 use Rattle.monitor_core.specs.declared.panel.Panel.{Panel}
-use Rattle.monitor_core.specs.Limits.{unit_frames}
-use Rattle.monitor_core.specs.declared.job.Job.{Job}
+use Rattle.monitor_calls.specs.Limits.{unit_frames}
+use Rattle.monitor_calls.specs.declared.job.Job.{Job}
 use Rattle.monitor_core.specs.declared.reply.Reply.TheVariants.{Ran}
-use Rattle.monitor_core.specs.declared.shown.Shown.{Shown}
-use Rattle.monitor_core.specs.declared.shown.Stop.{Stop}
-use Rattle.monitor_core.specs.declared.shown.Stop.TheVariants.{GoesOn}
+use Rattle.monitor_calls.specs.declared.shown.Shown.{Shown}
+use Rattle.monitor_calls.specs.declared.shown.Stop.{Stop}
+use Rattle.monitor_calls.specs.declared.shown.Stop.TheVariants.{GoesOn}
 use Rattle.monitor_core.specs.declared.system.System.{System}
-use Rattle.monitor_core.specs.declared.typing.Typing.{Typing}
-use Rattle.monitor_core.specs.declared.units.Units.{Units}
-use Rattle.monitor_core.specs.ForkUnit.{Behind, HasJob, LeavesForks, Tables, UnitWaits, UnitsRan, rest_of}
-use Rattle.monitor_core.specs.Jobs.{AreUnheld, job_at, jobs_left, jobs_of}
-use Rattle.monitor_core.specs.Runners.{told_at, told_where}
+use Rattle.monitor_calls.specs.declared.typing.Typing.{Typing}
+use Rattle.monitor_calls.specs.declared.units.Units.{Units}
+use Rattle.monitor_calls.specs.ForkUnit.{Behind, HasJob, LeavesForks, Tables, UnitWaits, UnitsRan, rest_of}
+use Rattle.monitor_calls.specs.Jobs.{AreUnheld, job_at, jobs_left, jobs_of}
+use Rattle.monitor_calls.specs.Runners.{told_at, told_where}
 use Rattle.monitor_core.specs.Replies.{FitsLine, line_before, ran_items}
-use Rattle.monitor_core.specs.Shown.{FitsShown, FitsStop, is_stop, seen_of}
-use Rattle.monitor_core.specs.Sound.{AreSound}
+use Rattle.monitor_calls.specs.Shown.{FitsShown, FitsStop, is_stop, seen_of}
+use Rattle.monitor_calls.specs.Sound.{AreSound}
 use Rattle.plain_files.specs.NamedFiles.{AreFiled, pages_named}
 use Rattle.plain_files.specs.Sizes.{file_at}
 use Rattle.file_tables.specs.declared.tables.FileTables.{FileTables}
@@ -48,14 +48,14 @@ use Rattle.file_calls.specs.Asking.{key_in}
 use Rattle.plain_files.specs.OpenFiles.{OpenFiles}
 use Rattle.file_tables.specs.Tables.{files_of, open_of}
 use Rattle.monitor_core.specs.Systems.{DidAll, FitsPages, IsWithin, Waits, named, state_of}
-use Rattle.monitor_core.specs.Writing.{most_makings}
+use Rattle.monitor_calls.specs.Writing.{most_makings}
 use Rattle.monitor_core.proofs.Told.{end_keeps}
-use Rattle.monitor_core.proofs.Lookups.{job_found, job_missing, jobs_set}
+use Rattle.monitor_calls.proofs.Lookups.{job_found, job_missing, jobs_set}
 use Rattle.monitor_core.proofs.Rows.{Entries, units_as}
-use Rattle.monitor_core.proofs.Sounds.{SameTops, same_tops, same_tops_set}
+use Rattle.monitor_calls.proofs.Sounds.{SameTops, same_tops, same_tops_set}
 use Rattle.monitor_core.proofs.Filed.{NamedFiles}
-use Rattle.monitor_core.proofs.JfnsAsked.{held_there}
-use Rattle.monitor_core.proofs.NamedKeys.{filed_now, keyed_named, named_now}
+use Rattle.monitor_calls.proofs.JfnsAsked.{held_there}
+use Rattle.monitor_calls.proofs.NamedKeys.{filed_now, keyed_named, named_now}
 use Rattle.monitor_core.proofs.Systems.{fits_left, unheld_still}
 use Rattle.monitor_core.proofs.UnitEffect.{Runs, behind_state, jobs_seen}
 

@@ -17,7 +17,7 @@ use Rattle.monitor_core.specs.declared.echo.Told.{Told}
 use Rattle.monitor_core.specs.declared.echo.Told.TheVariants as told
 use Rattle.monitor_core.specs.declared.echo.Echo.{Echo}
 use Rattle.monitor_core.specs.declared.echo.Echo.TheVariants.{Nothing, Shows, Wakes, Bell, Stops, Posts, Ends}
-use Rattle.monitor_core.specs.Shown.{FitsStop, stop_items}
+use Rattle.monitor_calls.specs.Shown.{FitsStop, stop_items}
 
 -- how it is printed why a command isn't done
 abbrev pub complaint_text : Complaint → List ℕ

@@ -14,11 +14,11 @@ use Rattle.plain_files.specs.OpenFiles.{open_at}
 use Rattle.plain_model.specs.State.{PlainJob, PlainState}
 use Rattle.plain_model.specs.Unit.{Effect}
 use Rattle.file_tables.specs.Tables.{open_of}
-use Rattle.monitor_core.specs.declared.job.Job.{Job}
+use Rattle.monitor_calls.specs.declared.job.Job.{Job}
 use Rattle.monitor_core.specs.declared.system.System.{System}
-use Rattle.monitor_core.specs.Jobs.{job_at, plain_job}
+use Rattle.monitor_calls.specs.Jobs.{job_at, plain_job}
 use Rattle.monitor_core.specs.Systems.{FitsPages, IsWithin, state_of}
-use Rattle.monitor_core.specs.Typings.{typing_at}
+use Rattle.monitor_calls.specs.Typings.{typing_at}
 
 -- an event that isn't given character by character
 abbrev pub IsAtOnce : Event → Type 0

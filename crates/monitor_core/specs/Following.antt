@@ -1,5 +1,6 @@
 -- What the lists of a machine are before they follow a step.
-use Rattle.std.specs.Prelude.{◌≡◌, ◌⊎◌, ℕ, ◌<◌, length, true}
+use Rattle.std.specs.Prelude.{◌≡◌, ◌⊎◌, ℕ, ◌<◌, List, length, true, Some, if◌then◌else◌}
+use Rattle.std.specs.FinMap as map
 use Rattle.machine_names.specs.declared.names.ForkName.{ForkName}
 use Rattle.machine_names.specs.declared.names.Tty.{Tty}
 use Rattle.plain_model.specs.Forks.{ForkMap, OthersStay}
@@ -7,20 +8,37 @@ use Rattle.plain_model.specs.Trees.{PlainTree}
 use Rattle.script_texts.specs.declared.event.Event.{Event}
 use Rattle.script_texts.specs.declared.event.Event.TheVariants.{Tick}
 use Rattle.machine_names.specs.Bounds.{IsTerminal}
+use Rattle.fork_tree.specs.Making.{last_name}
 use Rattle.fork_tree.specs.Trees.{IsTree}
 use Rattle.job_sched.specs.Schedules.{Schedule, heads}
+use Rattle.job_sched.specs.Units.{row_ran}
 use Rattle.fork_lists.specs.declared.lists.ForkLists.{ForkLists}
+use Rattle.fork_lists.specs.declared.seen.Seen.{Seen}
+use Rattle.fork_lists.specs.Following.{followed, started_if, stopped_if}
 use Rattle.fork_lists.specs.Ties.{AreTied}
 use Rattle.monitor_core.specs.declared.echo.Echo.{Echo}
-use Rattle.monitor_core.specs.declared.runner.Runner.{Runner}
-use Rattle.monitor_core.specs.declared.units.Reach.{Reach}
-use Rattle.monitor_core.specs.Reaching.{EchoReaches, EventReaches, Reaches}
-use Rattle.monitor_core.specs.Runners.{IsRunner}
+use Rattle.monitor_calls.specs.declared.runner.Runner.{Runner}
+use Rattle.monitor_calls.specs.declared.units.Reach.{Reach}
+use Rattle.monitor_calls.specs.declared.units.Reach.TheVariants.{Own, Made, Job}
+use Rattle.monitor_core.specs.Reaching.{EchoReaches, EventReaches}
+use Rattle.monitor_calls.specs.Reaching.{Reaches}
+use Rattle.monitor_calls.specs.Runners.{IsRunner}
 
 -- a fork is the head of the ready list
 pub record IsHead (s : Schedule) (f : ForkName) : Type 0 where
   pub some : 0 < length s.ready
   pub head : heads f s.ready ≡ true
+
+-- the lists follow a fork that ran, as far as it has reached: where it can't run any more it leaves them; besides, the fork that was made last at its terminal
+-- enters; or they follow its whole job
+abbrev pub reach_followed : Reach → PlainTree → ForkName → List Seen → Schedule → Schedule
+reach_followed Own now who seen s = stopped_if now.forks (Some who) s
+reach_followed Made now who seen s = started_if now.forks (λ f. true) (map.get now.forks (last_name now who.tty)) (stopped_if now.forks (Some who) s)
+reach_followed Job now who seen s = followed now.forks seen who.tty s
+
+-- the last unit of a row is counted where its fork still is the head
+abbrev pub last_counted : ForkName → Schedule → Schedule
+last_counted who s = if heads who s.ready then row_ran 1 s else s
 
 -- the lists had the forks that could run before a row of units of one, which has reached so far
 pub record RowEnded (l : ForkLists) (now : PlainTree) (who : Runner) (reach : Reach) : Type 0 where

@@ -1,14 +1,5 @@
 pub mod Outcome
-pub mod Limits
-pub mod Shown
-pub mod Typings
-pub mod Jobs
-pub mod Holding
-pub mod Writing
-pub mod Runners
-pub mod ForkUnit
 pub mod Looking
-pub mod Sound
 pub mod Echoes
 pub mod Replies
 pub mod JobEvents

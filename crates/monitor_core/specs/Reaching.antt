@@ -1,39 +1,12 @@
--- How far a step reaches among the forks, whatever a drum holds.
-use Rattle.std.specs.Prelude.{◌≡◌, ℕ, ◌==◌, ◌||◌, if◌then◌else◌}
-use Rattle.machine_names.specs.declared.names.ForkName.{ForkName}
+-- How far an event reaches among the forks, whatever a drum holds.
+use Rattle.std.specs.Prelude.{◌≡◌, ℕ}
 use Rattle.machine_names.specs.declared.names.Tty.{Tty}
 use Rattle.script_texts.specs.declared.event.Event.{Event}
 use Rattle.script_texts.specs.declared.event.Event.TheVariants.{Login, Poke, Start, Tick, Examine, Forks}
-use Rattle.plain_model.specs.declared.call.TheConstants.{CFORK}
-use Rattle.plain_model.specs.declared.fork.Body.{Body}
-use Rattle.plain_model.specs.Calls.{is_among}
-use Rattle.plain_model.specs.ClockCalls.{clock_calls}
-use Rattle.plain_model.specs.ForkCalls.{fork_calls}
 use Rattle.plain_model.specs.Forks.{ForkMap, OthersStay}
-use Rattle.plain_model.specs.InterruptCalls.{interrupt_calls}
 use Rattle.plain_model.specs.Trees.{PlainTree, sleepers_awoken}
-use Rattle.fork_tree.specs.Changes.{with_body_of}
-use Rattle.fork_tree.specs.Making.{AddsBeside}
 use Rattle.monitor_core.specs.declared.echo.Echo.{Echo}
 use Rattle.monitor_core.specs.declared.echo.Echo.TheVariants.{Bell, Ends, Nothing, Posts, Shows, Stops, Wakes}
-use Rattle.monitor_core.specs.declared.units.Reach.{Reach}
-use Rattle.monitor_core.specs.declared.units.Reach.TheVariants.{Own, Made, Job}
-
--- only this fork may stand otherwise, and of it no more than its body
-pub record ReachesOwn (who : ForkName) (old new : PlainTree) : Type 0 where
-  pub body : Body
-  pub left : new ≡ with_body_of old who body
-
--- so far a fork may have reached: only it may stand otherwise, or besides one fork more may be there, or only forks of its job may
-abbrev pub Reaches : Reach → ForkName → PlainTree → PlainTree → Type 0
-Reaches Own who old new = ReachesOwn who old new
-Reaches Made who old new = AddsBeside who old new
-Reaches Job who old new = OthersStay who.tty old.forks new.forks
-
--- how far a monitor call of this number may reach: CFORK makes a fork, and the other calls on forks, on interrupts and on the clock change forks
-abbrev pub reach_of : ℕ → Reach
-reach_of number =
-    if number == CFORK then Made else if is_among fork_calls number || (is_among interrupt_calls number || is_among clock_calls number) then Job else Own
 
 -- how far an event that is one step may reach, which leaves the clock so: forks of its terminal's job may stand otherwise; a tick awakes
 -- sleepers; and an event of no terminal leaves all as it was

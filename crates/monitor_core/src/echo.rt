@@ -2,8 +2,8 @@
 ghost use Rattle.std.specs.Prelude.{◌≡◌};
 ghost use Rattle.monitor_core.specs.Echoes.{complaint_text};
 
-use crate::shown::Stop;
 use machine_names::{DirName, Tty};
+use monitor_calls::Stop;
 
 /// Why a command isn't done.
 #[derive(Clone, Copy, PartialEq, Eq)]

@@ -1,5 +1,5 @@
 // The machine, over any pages.
-ghost use Rattle.std.specs.Prelude.{◌≡◌, true};
+ghost use Rattle.std.specs.Prelude.{◌≡◌, [], true};
 ghost use Rattle.fork_lists.specs.Ties.{AreTied};
 ghost use Rattle.monitor_core.specs.Systems.{IsWithin};
 
@@ -38,6 +38,8 @@ pub struct Machine<P: Pages> {
     ghost within: { IsWithin system done },
     // The forks in the lists are those that can run.
     ghost tied: { AreTied system.tree.forks lists },
+    // None of them is in page wait.
+    ghost calm: { lists.sched.waiting ≡ [] },
 }
 
 mod boot;

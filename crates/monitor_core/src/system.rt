@@ -2,14 +2,13 @@
 ghost use Rattle.std.specs.Prelude.{◌≡◌, length};
 ghost use Rattle.machine_names.specs.declared.names.TheConstants.{TERMINALS};
 ghost use Rattle.file_tables.specs.Tables.{open_of};
-ghost use Rattle.monitor_core.specs.Jobs.{AreUnheld};
-ghost use Rattle.monitor_core.specs.Sound.{AreSound};
+ghost use Rattle.monitor_calls.specs.Jobs.{AreUnheld};
+ghost use Rattle.monitor_calls.specs.Sound.{AreSound};
 
-use crate::job::Job;
 use crate::panel::Panel;
-use crate::typing::Typing;
 use file_tables::FileTables;
 use fork_tree::Tree;
+use monitor_calls::{Job, Typing};
 use page_contracts::Pages;
 use text_pointers::Scratch;
 

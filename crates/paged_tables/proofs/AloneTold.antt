@@ -23,14 +23,14 @@ use Rattle.pager_walk.specs.PagedMaps.{entry_in, name_at}
 use Rattle.pager_walk.specs.Walks.{IsNearSlot, WayStands, walk_at}
 use Rattle.pager_walk.proofs.Changing.{entry_back}
 use Rattle.pager_walk.proofs.Looking.{ArePages}
-use Rattle.flat_pages.specs.declared.held_entry.HeldEntry.TheVariants.{Page}
-use Rattle.flat_pages.specs.HeldMaps as flat
-use Rattle.flat_pages.specs.SlotTables.{Tables as FlatTables, AreTables, plain_of}
-use Rattle.flat_pages.specs.SlotTouches.{is_alone}
-use Rattle.flat_pages.specs.TableSteps.{home_renamed}
-use Rattle.flat_pages.proofs.Making.{alone_share, home_under, some_lives}
+use Rattle.flat_tables.specs.declared.held_entry.HeldEntry.TheVariants.{Page}
+use Rattle.flat_tables.specs.HeldMaps as flat
+use Rattle.flat_tables.specs.SlotTables.{Tables as FlatTables, AreTables, plain_of}
+use Rattle.flat_tables.specs.SlotTouches.{is_alone}
+use Rattle.flat_tables.specs.TableSteps.{home_renamed}
+use Rattle.flat_tables.proofs.Making.{alone_share, home_under, some_lives}
 use Rattle.flat_pages.proofs.Settled.{Announced, alone_home, alone_settled, slot_lives}
-use Rattle.flat_pages.proofs.Taking.{renamed_tables}
+use Rattle.flat_tables.proofs.Taking.{renamed_tables}
 use Rattle.paged_tables.specs.MadePages.{RenamesPage, pointer_to}
 use Rattle.paged_tables.specs.MapsInMemory.{in_memory}
 use Rattle.paged_tables.specs.PagedTables.{Beside, AreKept, FitsPages, in_memory_over, plain_over}

@@ -11,9 +11,9 @@ use Rattle.pager_walk.specs.declared.paged_entry.Looked.TheVariants.{Is, Absent,
 use Rattle.pager_walk.specs.declared.paged_entry.PagedEntry.{PagedEntry}
 use Rattle.pager_walk.specs.declared.paged_entry.PagedEntry.TheVariants as paged
 use Rattle.pager_walk.specs.PagedMaps.{Tables, entry_for}
-use Rattle.flat_pages.specs.declared.held_entry.HeldEntry.TheVariants.{Empty, Follows}
-use Rattle.flat_pages.specs.declared.held_entry.Link.{Link}
-use Rattle.flat_pages.specs.HeldMaps as flat
+use Rattle.flat_tables.specs.declared.held_entry.HeldEntry.TheVariants.{Empty, Follows}
+use Rattle.flat_tables.specs.declared.held_entry.Link.{Link}
+use Rattle.flat_tables.specs.HeldMaps as flat
 use Rattle.paged_tables.specs.MapsInMemory.{in_memory}
 use Rattle.paged_tables.specs.SetEntries.{alone_home, bare_entry}
 use Rattle.paged_tables.specs.PagedTables.{Beside}

@@ -16,11 +16,11 @@ use Rattle.share_table.specs.declared.shares.Share.{Share}
 use Rattle.share_table.specs.declared.shares.SharedPage.{SharedPage}
 use Rattle.plain_pages.proofs.Whole.{no_values}
 use Rattle.share_table.specs.Shares.{Shares, page_at}
-use Rattle.flat_pages.specs.declared.held_map.TheConstants.{MOST_MAPS as MOST_HELD}
-use Rattle.flat_pages.specs.HeldMaps.{free_map}
-use Rattle.flat_pages.specs.SlotTables.{Tables as FlatTables, AreTables, filed_total, is_at, plain_of, share_of}
-use Rattle.flat_pages.specs.Serials.{serial_of}
-use Rattle.flat_pages.proofs.Opening.{low_serial, opened, opened_plain, opened_tables}
+use Rattle.flat_tables.specs.declared.held_map.TheConstants.{MOST_MAPS as MOST_HELD}
+use Rattle.flat_tables.specs.HeldMaps.{free_map}
+use Rattle.flat_tables.specs.SlotTables.{Tables as FlatTables, AreTables, filed_total, is_at, plain_of, share_of}
+use Rattle.flat_tables.specs.Serials.{serial_of}
+use Rattle.flat_tables.proofs.Opening.{low_serial, opened, opened_plain, opened_tables}
 use Rattle.pager_walk.specs.declared.map_pages.TheConstants.{MOST_MAPS}
 use Rattle.pager_walk.specs.MapPages.{index_of, no_map, one_later}
 use Rattle.pager_walk.specs.PagedMaps.{Tables, AreRooted, FitsMaps, name_at}

@@ -23,17 +23,17 @@ use Rattle.pager_walk.specs.MapPages.{index_of}
 use Rattle.pager_walk.specs.PagedMaps.{look_at}
 use Rattle.pager_walk.specs.Walks.{IsNearSlot, WayStands, walk_at}
 use Rattle.pager_walk.proofs.Looking.{ArePages}
-use Rattle.flat_pages.specs.declared.held_entry.EntryAt.{EntryAt}
-use Rattle.flat_pages.specs.HeldMaps.{points_at}
-use Rattle.flat_pages.specs.declared.held_entry.HeldEntry.TheVariants.{Page}
-use Rattle.flat_pages.specs.SlotTables.{Tables as FlatTables, plain_of, share_of}
-use Rattle.flat_pages.specs.SlotTouches.{is_alone}
-use Rattle.flat_pages.specs.TableSteps.{home_taken, left_shares}
+use Rattle.flat_tables.specs.declared.held_entry.EntryAt.{EntryAt}
+use Rattle.flat_tables.specs.HeldMaps.{points_at}
+use Rattle.flat_tables.specs.declared.held_entry.HeldEntry.TheVariants.{Page}
+use Rattle.flat_tables.specs.SlotTables.{Tables as FlatTables, plain_of, share_of}
+use Rattle.flat_tables.specs.SlotTouches.{is_alone}
+use Rattle.flat_tables.specs.TableSteps.{home_taken, left_shares}
 use Rattle.flat_pages.proofs.FileCounts.{share_few}
-use Rattle.flat_pages.proofs.HeldEntries.{points_self, total_le}
-use Rattle.flat_pages.proofs.Making.{stays_shared}
+use Rattle.flat_tables.proofs.HeldEntries.{points_self, total_le}
+use Rattle.flat_tables.proofs.Making.{stays_shared}
 use Rattle.flat_pages.proofs.Settled.{Announced, copy_settled}
-use Rattle.flat_pages.specs.HeldMaps as flat
+use Rattle.flat_tables.specs.HeldMaps as flat
 use Rattle.paged_tables.specs.LeftShares.{left_of}
 use Rattle.paged_tables.specs.MadePages.{MakesPage}
 use Rattle.paged_tables.specs.MapsInMemory.{in_memory}

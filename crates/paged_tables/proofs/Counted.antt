@@ -4,7 +4,7 @@ use Rattle.std.specs.Prelude.{slice_set}
 use Rattle.machine_names.specs.declared.names.PageName.{PageName}
 use Rattle.share_table.specs.declared.shares.Share.{Share}
 use Rattle.share_table.specs.Shares.{Shares}
-use Rattle.flat_pages.specs.SlotTables.{share_of}
+use Rattle.flat_tables.specs.SlotTables.{share_of}
 use Rattle.pager_walk.specs.PagedMaps.{name_at}
 use Rattle.paged_tables.specs.NameCounts.{count_of, counts, share_at}
 

@@ -28,10 +28,10 @@ use Rattle.pager_walk.specs.declared.paged_entry.PagedEntry.{PagedEntry}
 use Rattle.pager_walk.specs.declared.paged_entry.PagedEntry.TheVariants as paged
 use Rattle.pager_walk.specs.PagedMaps.{TellsEntry, look_at, name_at, name_of, plain_entry}
 use Rattle.pager_walk.proofs.Looking.{ArePages, looked}
-use Rattle.flat_pages.specs.HeldMaps.{nobody}
+use Rattle.flat_tables.specs.HeldMaps.{nobody}
 use Rattle.flat_pages.proofs.Agreement.{tables_whole, uses_home}
 use Rattle.flat_pages.proofs.EmptyMaps.{core_on}
-use Rattle.flat_pages.proofs.FiledHomes.{get_filed}
+use Rattle.flat_tables.proofs.FiledHomes.{get_filed}
 use Rattle.paged_tables.specs.PagedTables.{Beside, AreKept, FitsPages, in_memory_over, plain_over}
 use Rattle.paged_tables.specs.SetEntries.{ChangesEntry, SetsSlot, UsesMapOf, narrow_paged}
 use Rattle.paged_tables.proofs.MapsSame.{forks_same, lives_same}

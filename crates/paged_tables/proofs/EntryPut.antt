@@ -14,9 +14,9 @@ use Rattle.pager_walk.specs.Walks.{IsNearSlot}
 use Rattle.pager_walk.proofs.Changing.{content_other, content_same, near_here}
 use Rattle.pager_walk.proofs.Looking.{ArePages, content_here, taken_within}
 use Rattle.pager_walk.proofs.NumberedMaps.{index_fork, index_is}
-use Rattle.flat_pages.specs.declared.held_entry.EntryAt.{EntryAt}
-use Rattle.flat_pages.specs.HeldMaps as flat
-use Rattle.flat_pages.specs.Walks.{slot_of}
+use Rattle.flat_tables.specs.declared.held_entry.EntryAt.{EntryAt}
+use Rattle.flat_tables.specs.HeldMaps as flat
+use Rattle.flat_tables.specs.Walks.{slot_of}
 use Rattle.paged_tables.specs.MapsInMemory.{in_memory, maps_in_memory}
 use Rattle.paged_tables.specs.PagedPlaces.{page_places}
 use Rattle.paged_tables.specs.PagedTables.{Beside, AreKept, FitsPages}

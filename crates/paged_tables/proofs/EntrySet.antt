@@ -13,9 +13,9 @@ use Rattle.pager_walk.specs.declared.paged_entry.PagedEntry.{PagedEntry}
 use Rattle.pager_walk.specs.MapPages.{fork_at, root_at}
 use Rattle.pager_walk.specs.PagedMaps.{Tables, AreRooted, FitsMaps, entry_in, words_in}
 use Rattle.pager_walk.proofs.Looking.{ArePages, taken_map, words_whole}
-use Rattle.flat_pages.specs.declared.held_entry.HeldEntry.{HeldEntry}
-use Rattle.flat_pages.specs.declared.held_entry.HeldEntry.TheVariants as entry
-use Rattle.flat_pages.specs.HeldMaps as flat
+use Rattle.flat_tables.specs.declared.held_entry.HeldEntry.{HeldEntry}
+use Rattle.flat_tables.specs.declared.held_entry.HeldEntry.TheVariants as entry
+use Rattle.flat_tables.specs.HeldMaps as flat
 use Rattle.flat_pages.proofs.Told.{map_same}
 use Rattle.paged_tables.specs.MapsInMemory.{entry_held, entries_held, in_memory, map_held, maps_in_memory}
 

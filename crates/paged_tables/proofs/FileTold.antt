@@ -23,11 +23,11 @@ use Rattle.pager_walk.specs.PagedMaps.{Tables, entry_in, with_name}
 use Rattle.pager_walk.proofs.Changing.{content_other}
 use Rattle.pager_walk.proofs.Looking.{ArePages}
 use Rattle.pager_walk.proofs.NamedPages.{same_word}
-use Rattle.flat_pages.specs.SlotTables.{Tables as FlatTables, AreTables, plain_of}
-use Rattle.flat_pages.specs.SlotTouches.{scene_of, touch_filed, touch_of_place}
-use Rattle.flat_pages.specs.TableSteps.{home_filed, next_name}
+use Rattle.flat_tables.specs.SlotTables.{Tables as FlatTables, AreTables, plain_of}
+use Rattle.flat_tables.specs.SlotTouches.{scene_of, touch_filed, touch_of_place}
+use Rattle.flat_tables.specs.TableSteps.{home_filed, next_name}
 use Rattle.flat_pages.proofs.FileSettles.{used_settles, zero_settles}
-use Rattle.flat_pages.proofs.Taking.{filed_tables}
+use Rattle.flat_tables.proofs.Taking.{filed_tables}
 use Rattle.paged_tables.specs.MadePages.{FilesPage}
 use Rattle.paged_tables.specs.MapsInMemory.{maps_in_memory}
 use Rattle.paged_tables.specs.NameCounts.{counts}

@@ -12,12 +12,12 @@ use Rattle.page_contracts.specs.Pages.{TakesFrames}
 use Rattle.page_contracts.specs.Stores.{HomePlace, Loses, StoreMeaning, away_at, away_home, free, here, is_here, is_taken, place, traffic}
 use Rattle.page_contracts.proofs.Losing.{loses_made, made_one}
 use Rattle.pager_walk.specs.PagedMaps.{name_at}
-use Rattle.flat_pages.specs.HeldMaps.{name_of}
-use Rattle.flat_pages.specs.Serials.{serial_of}
-use Rattle.flat_pages.specs.SlotTables.{files_held, filed_total, share_of}
-use Rattle.flat_pages.specs.TableSteps.{next_name}
-use Rattle.flat_pages.proofs.FiledHomes.{files_still, get_filed, with_elsewhere, with_here}
-use Rattle.flat_pages.proofs.NextSerials.{next_other, next_own}
+use Rattle.flat_tables.specs.HeldMaps.{name_of}
+use Rattle.flat_tables.specs.Serials.{serial_of}
+use Rattle.flat_tables.specs.SlotTables.{files_held, filed_total, share_of}
+use Rattle.flat_tables.specs.TableSteps.{next_name}
+use Rattle.flat_tables.proofs.FiledHomes.{files_still, get_filed, with_elsewhere, with_here}
+use Rattle.flat_tables.proofs.NextSerials.{next_other, next_own}
 use Rattle.paged_tables.specs.MadePages.{FilesPage}
 use Rattle.paged_tables.specs.NameCounts.{count_of, share_at}
 use Rattle.paged_tables.specs.PagedMeaning.{forks_in, lives_in}

@@ -13,9 +13,9 @@ use Rattle.page_homes.specs.declared.homes.Home.{Home}
 use Rattle.page_contracts.specs.Stores.{HomePlace, free, away, here, is_free, is_taken, place}
 use Rattle.share_table.specs.declared.shares.Share.{Share}
 use Rattle.share_table.specs.Shares.{Shares, one_fewer, one_more, page_at}
-use Rattle.flat_pages.specs.SlotTables.{filed_total, share_of}
+use Rattle.flat_tables.specs.SlotTables.{filed_total, share_of}
 use Rattle.flat_pages.proofs.FileCounts.{joined_is, parted_is}
-use Rattle.flat_pages.proofs.FiledHomes.{at_itself, at_other, filed_less, filed_more, filed_order, filed_some, filed_within, filed_without}
+use Rattle.flat_tables.proofs.FiledHomes.{at_itself, at_other, filed_less, filed_more, filed_order, filed_some, filed_within, filed_without}
 use Rattle.pager_walk.specs.MapPages.{fork_at, root_at}
 use Rattle.pager_walk.specs.PagedMaps.{AreRooted, name_at}
 use Rattle.pager_walk.proofs.Looking.{taken_map, taken_within}

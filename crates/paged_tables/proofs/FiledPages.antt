@@ -11,9 +11,9 @@ use Rattle.machine_names.specs.Bounds.{IsOwner}
 use Rattle.machine_names.specs.Orders.{FilePage}
 use Rattle.page_homes.specs.declared.homes.Home.{Home}
 use Rattle.page_contracts.specs.Stores.{HomePlace, free, is_taken, place}
-use Rattle.flat_pages.specs.SlotTables.{filed_total, share_of}
-use Rattle.flat_pages.specs.TableSteps.{next_name}
-use Rattle.flat_pages.proofs.FiledHomes.{at_itself, at_other, filed_more, filed_some, filed_within}
+use Rattle.flat_tables.specs.SlotTables.{filed_total, share_of}
+use Rattle.flat_tables.specs.TableSteps.{next_name}
+use Rattle.flat_tables.proofs.FiledHomes.{at_itself, at_other, filed_more, filed_some, filed_within}
 use Rattle.pager_walk.specs.PagedMaps.{AreRooted, name_at, with_name}
 use Rattle.paged_tables.specs.MadePages.{page_filed}
 use Rattle.paged_tables.specs.NameCounts.{count_of, share_at}

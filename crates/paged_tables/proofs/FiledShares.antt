@@ -13,7 +13,7 @@ use Rattle.machine_names.specs.declared.names.PageName.{PageName}
 use Rattle.share_table.specs.declared.shares.Share.{Share}
 use Rattle.share_table.specs.declared.shares.SharedPage.{SharedPage}
 use Rattle.share_table.specs.Shares.{Shares, joined_to, left_by, one_fewer, one_more, page_at, with_page, without}
-use Rattle.flat_pages.specs.SlotTables.{share_of}
+use Rattle.flat_tables.specs.SlotTables.{share_of}
 use Rattle.pager_walk.specs.PagedMaps.{name_at}
 use Rattle.paged_tables.specs.FiledTables.{joined_by_one}
 use Rattle.paged_tables.specs.LeftShares.{left_by_one}

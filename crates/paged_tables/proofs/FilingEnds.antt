@@ -15,12 +15,12 @@ use Rattle.page_contracts.proofs.Losing.{keeps_frames, loses_nothing, loses_on, 
 use Rattle.plain_pages.specs.PlainPages.{NumberedPages}
 use Rattle.plain_pages.specs.FilePages.{with_file, without_file}
 use Rattle.flat_pages.specs.FileSteps.{AreFewerFiled, FileHas, IsFiled}
-use Rattle.flat_pages.specs.SlotTouches.{home_named}
+use Rattle.flat_tables.specs.SlotTouches.{home_named}
 use Rattle.flat_pages.proofs.Agreement.{tables_whole}
 use Rattle.flat_pages.proofs.EmptyMaps.{core_on}
 use Rattle.flat_pages.proofs.EntrySetting.{same_core}
 use Rattle.flat_pages.proofs.FileEnds.{fewer_filed, fewer_itself, fewer_on, fewer_without}
-use Rattle.flat_pages.proofs.FiledHomes.{get_filed}
+use Rattle.flat_tables.proofs.FiledHomes.{get_filed}
 use Rattle.flat_pages.proofs.Telling.{named_home}
 use Rattle.flat_pages.proofs.Touching.{home_is}
 use Rattle.pager_walk.specs.MapPages.{index_of, root_at}

@@ -15,13 +15,13 @@ use Rattle.page_homes.specs.declared.homes.Home.{Home}
 use Rattle.page_contracts.specs.DrumWords.{DrumWords}
 use Rattle.page_contracts.specs.Stores.{HomePlace, content, free, here, place}
 use Rattle.plain_pages.specs.FilePages.{with_file}
-use Rattle.flat_pages.specs.declared.held_entry.HeldEntry.TheVariants as held
-use Rattle.flat_pages.specs.HeldMaps as flat
-use Rattle.flat_pages.specs.SlotTables.{Tables as FlatTables, AreSized, AreTables, filed_total, plain_of, share_of}
-use Rattle.flat_pages.specs.TableSteps.{file_freed}
-use Rattle.flat_pages.proofs.FiledHomes.{at_itself, filed_less, filed_some, files_still}
+use Rattle.flat_tables.specs.declared.held_entry.HeldEntry.TheVariants as held
+use Rattle.flat_tables.specs.HeldMaps as flat
+use Rattle.flat_tables.specs.SlotTables.{Tables as FlatTables, AreSized, AreTables, filed_total, plain_of, share_of}
+use Rattle.flat_tables.specs.TableSteps.{file_freed}
+use Rattle.flat_tables.proofs.FiledHomes.{at_itself, filed_less, filed_some, files_still}
 use Rattle.flat_pages.proofs.GivenUp.{gone_not}
-use Rattle.flat_pages.proofs.HeldEntries.{points_self, total_le}
+use Rattle.flat_tables.proofs.HeldEntries.{points_self, total_le}
 use Rattle.flat_pages.proofs.Leaving.{file_freed_tables, name_kept, named_of}
 use Rattle.flat_pages.proofs.Settling.{content_other as content_kept, fits_set, sized_of}
 use Rattle.flat_pages.proofs.Told.{entry_still, map_same}

@@ -23,12 +23,12 @@ use Rattle.plain_pages.proofs.FilesKept.{filed_again}
 use Rattle.share_table.specs.declared.shares.Share.{Share}
 use Rattle.share_table.specs.Shares.{page_at}
 use Rattle.flat_pages.specs.FileSteps.{IsFiled}
-use Rattle.flat_pages.specs.SlotTables.{files_held, filed_total}
-use Rattle.flat_pages.specs.SlotTouches.{home_named}
+use Rattle.flat_tables.specs.SlotTables.{files_held, filed_total}
+use Rattle.flat_tables.specs.SlotTouches.{home_named}
 use Rattle.flat_pages.proofs.Agreement.{tables_whole, uses_home}
 use Rattle.flat_pages.proofs.EmptyMaps.{core_on}
 use Rattle.flat_pages.proofs.EntrySetting.{same_core}
-use Rattle.flat_pages.proofs.FiledHomes.{at_itself, filed_apart, filed_less, filed_order, filed_some, files_still, get_filed, homes_with, with_elsewhere, with_here, without_none}
+use Rattle.flat_tables.proofs.FiledHomes.{at_itself, filed_apart, filed_less, filed_order, filed_some, files_still, get_filed, homes_with, with_elsewhere, with_here, without_none}
 use Rattle.flat_pages.proofs.Telling.{named_home}
 use Rattle.flat_pages.proofs.Touching.{home_is}
 use Rattle.pager_walk.specs.MapPages.{index_of, root_at}

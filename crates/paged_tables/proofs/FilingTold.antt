@@ -15,14 +15,14 @@ use Rattle.plain_pages.proofs.FilesKept.{filed_files, filed_maps, filed_still}
 use Rattle.plain_pages.proofs.Kept.{still_same}
 use Rattle.share_table.specs.declared.shares.Share.{Share}
 use Rattle.share_table.specs.Shares.{Shares, one_fewer, one_more, page_at}
-use Rattle.flat_pages.specs.declared.held_entry.EntryAt.{EntryAt}
-use Rattle.flat_pages.specs.declared.held_entry.HeldEntry.{HeldEntry}
-use Rattle.flat_pages.specs.HeldMaps as flat
-use Rattle.flat_pages.specs.SlotTables.{Tables as FlatTables, AreSized, AreTables, files_held, plain_of, share_of}
-use Rattle.flat_pages.specs.TableSteps.{file_joined, file_left}
+use Rattle.flat_tables.specs.declared.held_entry.EntryAt.{EntryAt}
+use Rattle.flat_tables.specs.declared.held_entry.HeldEntry.{HeldEntry}
+use Rattle.flat_tables.specs.HeldMaps as flat
+use Rattle.flat_tables.specs.SlotTables.{Tables as FlatTables, AreSized, AreTables, files_held, plain_of, share_of}
+use Rattle.flat_tables.specs.TableSteps.{file_joined, file_left}
 use Rattle.flat_pages.proofs.Agreement.{tables_whole}
 use Rattle.flat_pages.proofs.FileCounts.{share_few}
-use Rattle.flat_pages.proofs.FiledHomes.{held_insert, held_remove, homes_with}
+use Rattle.flat_tables.proofs.FiledHomes.{held_insert, held_remove, homes_with}
 use Rattle.flat_pages.proofs.FileSetting.{file_joined_tables, file_left_tables, maps_alike}
 use Rattle.flat_pages.proofs.Leaving.{pages_still}
 use Rattle.pager_walk.specs.declared.paged_entry.PagedEntry.{PagedEntry}

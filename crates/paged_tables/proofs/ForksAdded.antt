@@ -19,7 +19,7 @@ use Rattle.pager_walk.specs.NewPages.{following_words}
 use Rattle.pager_walk.specs.PagedMaps.{Tables, entry_for, entry_in}
 use Rattle.pager_walk.proofs.DecodedWords.{pointer_back}
 use Rattle.pager_walk.proofs.NumberedMaps.{index_is}
-use Rattle.flat_pages.specs.declared.held_entry.HeldEntry.TheVariants.{Empty}
+use Rattle.flat_tables.specs.declared.held_entry.HeldEntry.TheVariants.{Empty}
 use Rattle.paged_tables.specs.AddedForks.{AreBareWords}
 use Rattle.paged_tables.specs.MapsInMemory.{entry_held, in_memory}
 use Rattle.paged_tables.specs.PagedMeaning.{with_fork}

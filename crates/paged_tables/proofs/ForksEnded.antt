@@ -22,16 +22,16 @@ use Rattle.pager_walk.specs.PagedMaps.{without_root}
 use Rattle.pager_walk.proofs.Ended.{content_is, fits_ended, root_is, rooted_ended, whose}
 use Rattle.pager_walk.proofs.Looking.{ArePages, taken_map, taken_within}
 use Rattle.pager_walk.proofs.NumberedMaps.{fork_within, index_fork}
-use Rattle.flat_pages.specs.declared.held_entry.HeldEntry.{HeldEntry}
-use Rattle.flat_pages.specs.declared.held_entry.HeldEntry.TheVariants.{Empty, Page, Follows}
-use Rattle.flat_pages.specs.HeldMaps as flat
+use Rattle.flat_tables.specs.declared.held_entry.HeldEntry.{HeldEntry}
+use Rattle.flat_tables.specs.declared.held_entry.HeldEntry.TheVariants.{Empty, Page, Follows}
+use Rattle.flat_tables.specs.HeldMaps as flat
 use Rattle.flat_pages.specs.Emptying.{AreFewer}
-use Rattle.flat_pages.specs.SlotTables.{Tables as FlatTables, AreTables, plain_of}
-use Rattle.flat_pages.specs.TableSteps.{fork_ended}
+use Rattle.flat_tables.specs.SlotTables.{Tables as FlatTables, AreTables, plain_of}
+use Rattle.flat_tables.specs.TableSteps.{fork_ended}
 use Rattle.flat_pages.proofs.Agreement.{tables_whole}
 use Rattle.flat_pages.proofs.Ending.{ended_maps, ended_tables, fewer_without, none_named}
-use Rattle.flat_pages.proofs.ForkMaps.{fork_within as flat_within}
-use Rattle.flat_pages.proofs.LivingMaps.{get_living}
+use Rattle.flat_tables.proofs.ForkMaps.{fork_within as flat_within}
+use Rattle.flat_tables.proofs.LivingMaps.{get_living}
 use Rattle.paged_tables.specs.EndedForks.{EmptiesFork, fork_gone}
 use Rattle.paged_tables.specs.MapsInMemory.{map_held, maps_in_memory}
 use Rattle.paged_tables.specs.PagedPlaces.{page_places}

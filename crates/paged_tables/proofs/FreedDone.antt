@@ -30,21 +30,21 @@ use Rattle.pager_walk.specs.Walks.{IsNearSlot}
 use Rattle.pager_walk.proofs.Changing.{content_other, content_same, entry_back, fits_still, near_here, pointer_put}
 use Rattle.pager_walk.proofs.Looking.{ArePages, taken_map, taken_within}
 use Rattle.pager_walk.proofs.NumberedMaps.{index_fork}
-use Rattle.flat_pages.specs.declared.held_entry.EntryAt.{EntryAt}
-use Rattle.flat_pages.specs.declared.held_entry.HeldEntry.{HeldEntry}
-use Rattle.flat_pages.specs.declared.held_entry.HeldEntry.TheVariants.{Page, Follows}
-use Rattle.flat_pages.specs.declared.held_entry.Link.{Link}
-use Rattle.flat_pages.specs.HeldMaps as flat
-use Rattle.flat_pages.specs.TableSteps.{home_freed}
-use Rattle.flat_pages.specs.Walks.{slot_of}
-use Rattle.flat_pages.proofs.HeldEntries.{points_self, total_le, total_with}
+use Rattle.flat_tables.specs.declared.held_entry.EntryAt.{EntryAt}
+use Rattle.flat_tables.specs.declared.held_entry.HeldEntry.{HeldEntry}
+use Rattle.flat_tables.specs.declared.held_entry.HeldEntry.TheVariants.{Page, Follows}
+use Rattle.flat_tables.specs.declared.held_entry.Link.{Link}
+use Rattle.flat_tables.specs.HeldMaps as flat
+use Rattle.flat_tables.specs.TableSteps.{home_freed}
+use Rattle.flat_tables.specs.Walks.{slot_of}
+use Rattle.flat_tables.proofs.HeldEntries.{points_self, total_le, total_with}
 use Rattle.flat_pages.proofs.Leaving.{freed_tables}
-use Rattle.flat_pages.proofs.Making.{some_lives}
+use Rattle.flat_tables.proofs.Making.{some_lives}
 use Rattle.flat_pages.proofs.Settled.{slot_lives}
 use Rattle.flat_pages.proofs.Told.{entry_still, none_else}
-use Rattle.flat_pages.specs.SlotTables.{Tables as FlatTables, AreTables, files_held, filed_total, share_of}
-use Rattle.flat_pages.specs.SlotTouches.{home_named}
-use Rattle.flat_pages.proofs.FiledHomes.{files_still}
+use Rattle.flat_tables.specs.SlotTables.{Tables as FlatTables, AreTables, files_held, filed_total, share_of}
+use Rattle.flat_tables.specs.SlotTouches.{home_named}
+use Rattle.flat_tables.proofs.FiledHomes.{files_still}
 use Rattle.flat_pages.proofs.Telling.{named_home}
 use Rattle.flat_pages.proofs.Touching.{home_is}
 use Rattle.paged_tables.specs.MapsInMemory.{in_memory, maps_in_memory}

@@ -17,7 +17,7 @@ use Rattle.share_table.specs.Shares.{Shares, left_by, one_fewer, page_at, with_p
 use Rattle.pager_walk.specs.MapPages.{root_at}
 use Rattle.pager_walk.specs.PagedMaps.{AreRooted, name_at}
 use Rattle.pager_walk.proofs.Looking.{taken_map, taken_within}
-use Rattle.flat_pages.specs.SlotTables.{share_of}
+use Rattle.flat_tables.specs.SlotTables.{share_of}
 use Rattle.paged_tables.specs.LeftShares.{left_by_one}
 use Rattle.paged_tables.specs.NameCounts.{count_of, counts, share_at}
 use Rattle.paged_tables.specs.PagedTables.{AreFiled, AreKept, AreShared, Beside}

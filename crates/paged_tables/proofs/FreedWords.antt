@@ -19,11 +19,11 @@ use Rattle.pager_walk.specs.Decoding.{pointer_in}
 use Rattle.pager_walk.specs.MapPages.{fork_at, root_at}
 use Rattle.pager_walk.specs.PagedMaps.{FitsMaps, Tables, entry_for, entry_in, name_at, page_entry, words_in}
 use Rattle.pager_walk.proofs.Looking.{ArePages, words_whole}
-use Rattle.flat_pages.specs.declared.held_entry.EntryAt.{EntryAt}
-use Rattle.flat_pages.specs.declared.held_entry.HeldEntry.{HeldEntry}
-use Rattle.flat_pages.specs.declared.held_entry.HeldEntry.TheVariants as entry
-use Rattle.flat_pages.specs.HeldMaps as flat
-use Rattle.flat_pages.proofs.HeldEntries.{points_self}
+use Rattle.flat_tables.specs.declared.held_entry.EntryAt.{EntryAt}
+use Rattle.flat_tables.specs.declared.held_entry.HeldEntry.{HeldEntry}
+use Rattle.flat_tables.specs.declared.held_entry.HeldEntry.TheVariants as entry
+use Rattle.flat_tables.specs.HeldMaps as flat
+use Rattle.flat_tables.proofs.HeldEntries.{points_self}
 use Rattle.flat_pages.proofs.Told.{map_same}
 use Rattle.paged_tables.specs.MapsInMemory.{entry_held, in_memory, maps_in_memory}
 use Rattle.paged_tables.specs.LeftShares.{left_by_one}

@@ -26,11 +26,11 @@ use Rattle.pager_walk.specs.PagedMaps.{map_away, name_at, name_of}
 use Rattle.pager_walk.specs.Walks.{TellsWalk, WalkStands, walk_at}
 use Rattle.pager_walk.proofs.Looking.{ArePages, taken_map}
 use Rattle.pager_walk.proofs.Walking.{stood, walked}
-use Rattle.flat_pages.specs.declared.chain_walk.Walk.{Walk}
-use Rattle.flat_pages.specs.HeldMaps as flat
-use Rattle.flat_pages.specs.Walks.{walk}
-use Rattle.flat_pages.specs.SlotTables.{Tables as FlatTables, AreSized}
-use Rattle.flat_pages.specs.SlotTouches.{home_at, scene_of, walk_of}
+use Rattle.flat_tables.specs.declared.chain_walk.Walk.{Walk}
+use Rattle.flat_tables.specs.HeldMaps as flat
+use Rattle.flat_tables.specs.Walks.{walk}
+use Rattle.flat_tables.specs.SlotTables.{Tables as FlatTables, AreSized}
+use Rattle.flat_tables.specs.SlotTouches.{home_at, scene_of, walk_of}
 use Rattle.flat_pages.proofs.Meeting.{Reached, reached, unreached, reached_counted, reached_word, peek_here, peek_away, peek_none}
 use Rattle.flat_pages.proofs.Settling.{sized_of}
 use Rattle.paged_tables.specs.declared.page_home.PageHome.{PageHome}

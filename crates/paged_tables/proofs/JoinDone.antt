@@ -17,15 +17,15 @@ use Rattle.pager_walk.specs.PagedMaps.{FitsMaps, Tables, entry_for, entry_in, is
 use Rattle.pager_walk.specs.Walks.{IsNearSlot}
 use Rattle.pager_walk.proofs.Changing.{pointer_put}
 use Rattle.pager_walk.proofs.Looking.{ArePages}
-use Rattle.flat_pages.specs.declared.held_entry.EntryAt.{EntryAt}
-use Rattle.flat_pages.specs.declared.held_entry.HeldEntry.TheVariants.{Empty, Page, Follows}
-use Rattle.flat_pages.specs.declared.held_entry.Link.{Link}
-use Rattle.flat_pages.specs.HeldMaps as flat
-use Rattle.flat_pages.specs.SlotTables.{AreTables}
+use Rattle.flat_tables.specs.declared.held_entry.EntryAt.{EntryAt}
+use Rattle.flat_tables.specs.declared.held_entry.HeldEntry.TheVariants.{Empty, Page, Follows}
+use Rattle.flat_tables.specs.declared.held_entry.Link.{Link}
+use Rattle.flat_tables.specs.HeldMaps as flat
+use Rattle.flat_tables.specs.SlotTables.{AreTables}
 use Rattle.flat_pages.proofs.FileCounts.{share_few}
 use Rattle.flat_pages.proofs.FileSetting.{entry_joined_tables}
 use Rattle.flat_pages.proofs.Leaving.{kept_tables}
-use Rattle.flat_pages.proofs.Making.{some_lives}
+use Rattle.flat_tables.proofs.Making.{some_lives}
 use Rattle.flat_pages.proofs.Settled.{slot_lives}
 use Rattle.paged_tables.specs.MadePages.{pointer_to, with_shares}
 use Rattle.paged_tables.specs.MapsInMemory.{in_memory}

@@ -18,7 +18,7 @@ use Rattle.share_table.specs.declared.pointer.Pointer.TheVariants as pointed
 use Rattle.share_table.specs.declared.shares.Share.{Share}
 use Rattle.share_table.specs.declared.shares.SharedPage.{SharedPage}
 use Rattle.share_table.specs.Shares.{Shares, joined, joined_to, one_more, page_at, with_page}
-use Rattle.flat_pages.specs.SlotTables.{share_of}
+use Rattle.flat_tables.specs.SlotTables.{share_of}
 use Rattle.pager_walk.specs.Decoding.{pointer_in}
 use Rattle.pager_walk.specs.PagedMaps.{Tables, entry_for, entry_in, name_at, page_entry}
 use Rattle.paged_tables.specs.MadePages.{with_shares}

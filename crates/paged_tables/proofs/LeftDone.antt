@@ -11,13 +11,13 @@ use Rattle.pager_walk.specs.declared.paged_entry.PagedEntry.{PagedEntry}
 use Rattle.pager_walk.specs.PagedMaps.{entry_in, look_at}
 use Rattle.pager_walk.specs.Walks.{IsNearSlot}
 use Rattle.pager_walk.proofs.Looking.{ArePages}
-use Rattle.flat_pages.specs.declared.held_entry.EntryAt.{EntryAt}
-use Rattle.flat_pages.specs.HeldMaps as flat
-use Rattle.flat_pages.specs.SlotTables.{AreTables}
-use Rattle.flat_pages.specs.SlotTouches.{is_alone}
-use Rattle.flat_pages.specs.TableSteps.{left_shares}
+use Rattle.flat_tables.specs.declared.held_entry.EntryAt.{EntryAt}
+use Rattle.flat_tables.specs.HeldMaps as flat
+use Rattle.flat_tables.specs.SlotTables.{AreTables}
+use Rattle.flat_tables.specs.SlotTouches.{is_alone}
+use Rattle.flat_tables.specs.TableSteps.{left_shares}
 use Rattle.flat_pages.proofs.Leaving.{left_tables}
-use Rattle.flat_pages.proofs.Making.{some_lives, stays_shared}
+use Rattle.flat_tables.proofs.Making.{some_lives, stays_shared}
 use Rattle.flat_pages.proofs.Settled.{slot_lives}
 use Rattle.paged_tables.specs.LeftShares.{left_of}
 use Rattle.paged_tables.specs.MapsInMemory.{in_memory}

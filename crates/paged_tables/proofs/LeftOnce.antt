@@ -11,7 +11,7 @@ use Rattle.share_table.specs.declared.pointer.Pointer.TheVariants as pointer
 use Rattle.share_table.specs.declared.shares.Share.{Share}
 use Rattle.share_table.specs.declared.shares.SharedPage.{SharedPage}
 use Rattle.share_table.specs.Shares.{Shares, left_by, one_fewer, page_at, with_page, without}
-use Rattle.flat_pages.specs.SlotTables.{share_of}
+use Rattle.flat_tables.specs.SlotTables.{share_of}
 use Rattle.pager_walk.specs.declared.paged_entry.PagedEntry.{PagedEntry}
 use Rattle.pager_walk.specs.Decoding.{pointer_in}
 use Rattle.page_contracts.specs.DrumWords.{DrumWords}

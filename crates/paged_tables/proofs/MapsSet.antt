@@ -23,7 +23,7 @@ use Rattle.pager_walk.specs.declared.chain_walk.Walked.TheVariants.{Along}
 use Rattle.pager_walk.specs.MapPages.{index_of}
 use Rattle.pager_walk.specs.Walks.{WayStands, walk_at}
 use Rattle.pager_walk.proofs.Looking.{ArePages}
-use Rattle.flat_pages.specs.SlotTables.{AreSized, Tables as FlatTables}
+use Rattle.flat_tables.specs.SlotTables.{AreSized, Tables as FlatTables}
 use Rattle.flat_pages.proofs.Settled.{Announced, copy_set, stays_set, zero_set}
 use Rattle.flat_pages.proofs.Settling.{sized_of}
 use Rattle.paged_tables.specs.PagedTables.{AreKept, Beside, FitsPages, in_memory_over, plain_over}

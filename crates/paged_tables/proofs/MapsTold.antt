@@ -15,10 +15,10 @@ use Rattle.pager_walk.specs.declared.paged_entry.PagedEntry.{PagedEntry}
 use Rattle.pager_walk.specs.declared.paged_entry.PagedEntry.TheVariants as paged
 use Rattle.pager_walk.specs.MapPages.{fork_at, root_at, index_of, one_later}
 use Rattle.pager_walk.specs.PagedMaps.{Tables, entry_in, entry_of, maps_over, plain_entry, row_of, rows_from, words_in}
-use Rattle.flat_pages.specs.declared.held_entry.HeldEntry.{HeldEntry}
-use Rattle.flat_pages.specs.declared.held_entry.HeldEntry.TheVariants.{Empty}
-use Rattle.flat_pages.specs.declared.held_map.HeldMap.{HeldMap}
-use Rattle.flat_pages.specs.HeldMaps as flat
+use Rattle.flat_tables.specs.declared.held_entry.HeldEntry.{HeldEntry}
+use Rattle.flat_tables.specs.declared.held_entry.HeldEntry.TheVariants.{Empty}
+use Rattle.flat_tables.specs.declared.held_map.HeldMap.{HeldMap}
+use Rattle.flat_tables.specs.HeldMaps as flat
 use Rattle.paged_tables.specs.MapsInMemory.{in_memory, entry_held, entries_held, map_held, maps_in_memory}
 
 module _ (t : Tables) (words : ℕ → Option (List ℕ)) where

@@ -13,10 +13,10 @@ use Rattle.pager_walk.specs.declared.chain_walk.Walked.TheVariants.{Along}
 use Rattle.pager_walk.specs.MapPages.{index_of}
 use Rattle.pager_walk.specs.Walks.{WayStands, walk_at}
 use Rattle.pager_walk.proofs.Looking.{ArePages}
-use Rattle.flat_pages.specs.declared.held_entry.EntryAt.{EntryAt}
-use Rattle.flat_pages.specs.declared.chain_walk.Walk.{Walk}
-use Rattle.flat_pages.specs.Walks.{slot_of, walk}
-use Rattle.flat_pages.specs.SlotTouches.{copy_of, scene_of, touch_walked}
+use Rattle.flat_tables.specs.declared.held_entry.EntryAt.{EntryAt}
+use Rattle.flat_tables.specs.declared.chain_walk.Walk.{Walk}
+use Rattle.flat_tables.specs.Walks.{slot_of, walk}
+use Rattle.flat_tables.specs.SlotTouches.{copy_of, scene_of, touch_walked}
 use Rattle.flat_pages.proofs.Settled.{Announced}
 use Rattle.paged_tables.specs.PagedTables.{Beside, AreKept, FitsPages, in_memory_over}
 use Rattle.paged_tables.specs.PagedTouches.{copy_for, walk_touched}

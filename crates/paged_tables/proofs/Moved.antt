@@ -19,7 +19,7 @@ use Rattle.pager_walk.specs.MapPages.{fork_at, root_at, index_of}
 use Rattle.pager_walk.specs.PagedMaps.{Tables, AreRooted, FitsMaps, entry_in, words_in}
 use Rattle.pager_walk.proofs.Changing.{content_other, fits_still, taken_still}
 use Rattle.pager_walk.proofs.Looking.{ArePages}
-use Rattle.flat_pages.specs.SlotTables.{Tables as FlatTables, AreTables, AreSized, plain_of, objects_of}
+use Rattle.flat_tables.specs.SlotTables.{Tables as FlatTables, AreTables, AreSized, plain_of, objects_of}
 use Rattle.flat_pages.proofs.Putting.{moved_tables, put_tables, replaced, stored_at}
 use Rattle.flat_pages.proofs.Settling.{sized_of}
 use Rattle.paged_tables.specs.declared.page_home.PageHome.TheVariants.{At}

@@ -7,10 +7,10 @@ use Rattle.std.proofs.lemmas.List.Sums.{sum_by-set}
 use Rattle.machine_names.specs.declared.names.PageName.{PageName}
 use Rattle.machine_names.specs.declared.names.Tty.{Tty}
 use Rattle.machine_names.specs.Bounds.{IsOwner}
-use Rattle.flat_pages.specs.declared.page_serials.PageSerials.{PageSerials}
-use Rattle.flat_pages.specs.Serials.{serial_of, with_next}
-use Rattle.flat_pages.specs.TableSteps.{next_name}
-use Rattle.flat_pages.proofs.NextSerials.{next_later, next_length, next_own}
+use Rattle.flat_tables.specs.declared.page_serials.PageSerials.{PageSerials}
+use Rattle.flat_tables.specs.Serials.{serial_of, with_next}
+use Rattle.flat_tables.specs.TableSteps.{next_name}
+use Rattle.flat_tables.proofs.NextSerials.{next_later, next_length, next_own}
 use Rattle.pager_walk.specs.PagedMaps.{name_at}
 use Rattle.paged_tables.specs.PagedTables.{AreNamed}
 

@@ -11,9 +11,9 @@ use Rattle.pager_walk.specs.declared.paged_entry.PagedEntry.{PagedEntry}
 use Rattle.pager_walk.specs.declared.paged_entry.PagedEntry.TheVariants as paged
 use Rattle.pager_walk.specs.PagedMaps.{LookStands, entry_for, look_at}
 use Rattle.pager_walk.proofs.Looking.{stands_at}
-use Rattle.flat_pages.specs.declared.held_entry.HeldEntry.TheVariants.{Follows}
-use Rattle.flat_pages.specs.declared.held_entry.Link.{Link}
-use Rattle.flat_pages.specs.HeldMaps as flat
+use Rattle.flat_tables.specs.declared.held_entry.HeldEntry.TheVariants.{Follows}
+use Rattle.flat_tables.specs.declared.held_entry.Link.{Link}
+use Rattle.flat_tables.specs.HeldMaps as flat
 use Rattle.paged_tables.specs.MapsInMemory.{in_memory}
 use Rattle.paged_tables.specs.PagedTables.{Beside, AreKept}
 use Rattle.paged_tables.specs.SetEntries.{narrow_paged, pointer_of}

@@ -23,15 +23,15 @@ use Rattle.pager_walk.specs.MapPages.{AreNumbered, first_map, fork_at, index_of,
 use Rattle.pager_walk.specs.PagedMaps.{Tables, AreRooted, FitsMaps, entry_in, entry_of, plain_entry, with_root, words_in}
 use Rattle.pager_walk.proofs.Changing.{content_other, content_same as content_own}
 use Rattle.pager_walk.proofs.Looking.{taken_map}
-use Rattle.flat_pages.specs.declared.held_entry.HeldEntry.{HeldEntry}
-use Rattle.flat_pages.specs.declared.held_entry.HeldEntry.TheVariants.{Empty, Page, Follows}
-use Rattle.flat_pages.specs.declared.held_map.HeldMap.{HeldMap}
-use Rattle.flat_pages.specs.HeldMaps as flat
-use Rattle.flat_pages.specs.SlotTables.{Tables as FlatTables}
-use Rattle.flat_pages.specs.TableSteps.{fork_begun}
-use Rattle.flat_pages.proofs.Beginning.{AreNew, agrees_begun, lives_begun, others_begun, own_begun, told_begun, unused_new}
-use Rattle.flat_pages.proofs.Beginning.{followers_follow}
-use Rattle.flat_pages.proofs.Making.{all_living}
+use Rattle.flat_tables.specs.declared.held_entry.HeldEntry.{HeldEntry}
+use Rattle.flat_tables.specs.declared.held_entry.HeldEntry.TheVariants.{Empty, Page, Follows}
+use Rattle.flat_tables.specs.declared.held_map.HeldMap.{HeldMap}
+use Rattle.flat_tables.specs.HeldMaps as flat
+use Rattle.flat_tables.specs.SlotTables.{Tables as FlatTables}
+use Rattle.flat_tables.specs.TableSteps.{fork_begun}
+use Rattle.flat_tables.proofs.Beginning.{AreNew, agrees_begun, lives_begun, others_begun, own_begun, told_begun, unused_new}
+use Rattle.flat_tables.proofs.Beginning.{followers_follow}
+use Rattle.flat_tables.proofs.Making.{all_living}
 use Rattle.pager_walk.specs.NewPages.{following_words}
 use Rattle.pager_walk.proofs.Begun.{zero_row}
 use Rattle.pager_walk.proofs.Followed.{following_row}

@@ -21,14 +21,14 @@ use Rattle.pager_walk.specs.PagedMaps.{Tables, AreRooted, entry_in, is_near, loo
 use Rattle.pager_walk.proofs.Changing.{content_other, entry_back, taken_still}
 use Rattle.pager_walk.proofs.Looking.{ArePages, taken_map}
 use Rattle.pager_walk.proofs.NamedPages.{same_word}
-use Rattle.flat_pages.specs.declared.held_entry.EntryAt.{EntryAt}
-use Rattle.flat_pages.specs.declared.held_entry.HeldEntry.TheVariants.{Page}
-use Rattle.flat_pages.specs.HeldMaps as flat
-use Rattle.flat_pages.specs.SlotTables.{Tables as FlatTables, AreTables}
-use Rattle.flat_pages.specs.TableSteps.{home_taken, left_shares, next_name}
-use Rattle.flat_pages.proofs.Making.{some_lives}
+use Rattle.flat_tables.specs.declared.held_entry.EntryAt.{EntryAt}
+use Rattle.flat_tables.specs.declared.held_entry.HeldEntry.TheVariants.{Page}
+use Rattle.flat_tables.specs.HeldMaps as flat
+use Rattle.flat_tables.specs.SlotTables.{Tables as FlatTables, AreTables}
+use Rattle.flat_tables.specs.TableSteps.{home_taken, left_shares, next_name}
+use Rattle.flat_tables.proofs.Making.{some_lives}
 use Rattle.flat_pages.proofs.Settled.{slot_lives}
-use Rattle.flat_pages.proofs.Taking.{taken_tables}
+use Rattle.flat_tables.proofs.Taking.{taken_tables}
 use Rattle.paged_tables.specs.MadePages.{MakesPage, page_named}
 use Rattle.paged_tables.specs.MapsInMemory.{maps_in_memory}
 use Rattle.paged_tables.specs.NameCounts.{counts}
@@ -46,9 +46,9 @@ use Rattle.share_table.specs.Shares.{Shares}
 use Rattle.share_table.specs.declared.shares.Share.{Share}
 use Rattle.pager_walk.specs.declared.paged_entry.PagedEntry.{PagedEntry}
 use Rattle.pager_walk.specs.Walks.{IsNearSlot}
-use Rattle.flat_pages.specs.declared.held_entry.HeldEntry.{HeldEntry}
-use Rattle.flat_pages.specs.Walks.{slot_of}
-use Rattle.flat_pages.specs.SlotTables.{share_of}
+use Rattle.flat_tables.specs.declared.held_entry.HeldEntry.{HeldEntry}
+use Rattle.flat_tables.specs.Walks.{slot_of}
+use Rattle.flat_tables.specs.SlotTables.{share_of}
 use Rattle.paged_tables.specs.NameCounts.{count_of, share_at}
 use Rattle.paged_tables.specs.PagedTables.{AreFiled}
 use Rattle.paged_tables.proofs.Naming.{named_more}

@@ -29,7 +29,7 @@ use Rattle.pager_walk.specs.MapPages.{index_of}
 use Rattle.pager_walk.specs.PagedMaps.{look_at, map_away}
 use Rattle.pager_walk.specs.Walks.{WayStands, allows_along, walk_at}
 use Rattle.pager_walk.proofs.Looking.{ArePages}
-use Rattle.flat_pages.specs.SlotTouches.{home_named}
+use Rattle.flat_tables.specs.SlotTouches.{home_named}
 use Rattle.flat_pages.proofs.Settled.{stays_told}
 use Rattle.flat_pages.proofs.Settling.{sized_of}
 use Rattle.paged_tables.specs.declared.page_home.PageHome.TheVariants.{At}

@@ -21,11 +21,11 @@ use Rattle.pager_walk.specs.Walks.{IsNearSlot}
 use Rattle.pager_walk.proofs.Changing.{entry_back}
 use Rattle.pager_walk.proofs.Looking.{ArePages}
 use Rattle.pager_walk.proofs.NumberedMaps.{index_fork}
-use Rattle.flat_pages.specs.declared.held_entry.EntryAt.{EntryAt}
-use Rattle.flat_pages.specs.HeldMaps as flat
-use Rattle.flat_pages.specs.Walks.{slot_of}
-use Rattle.flat_pages.specs.SlotTables.{Tables as FlatTables, AreTables, files_held}
-use Rattle.flat_pages.specs.SlotTouches.{home_named}
+use Rattle.flat_tables.specs.declared.held_entry.EntryAt.{EntryAt}
+use Rattle.flat_tables.specs.HeldMaps as flat
+use Rattle.flat_tables.specs.Walks.{slot_of}
+use Rattle.flat_tables.specs.SlotTables.{Tables as FlatTables, AreTables, files_held}
+use Rattle.flat_tables.specs.SlotTouches.{home_named}
 use Rattle.flat_pages.proofs.EntrySetting.{same_core}
 use Rattle.paged_tables.specs.MapsInMemory.{in_memory, maps_in_memory}
 use Rattle.paged_tables.specs.NameCounts.{counts}

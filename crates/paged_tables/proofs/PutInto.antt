@@ -3,8 +3,8 @@ use Rattle.std.proofs.Common.{◌≡◌, ◌+◌, ℕ, List, ◌∙◌}
 use Rattle.std.specs.Prelude.{slice_set}
 use Rattle.page_contracts.specs.Stores.{HomePlace, StoreMeaning, here, place, with_word_in}
 use Rattle.page_contracts.specs.Pages.{StaysPut}
-use Rattle.flat_pages.specs.Serials.{serial_of}
-use Rattle.flat_pages.specs.SlotTouches.{home_named}
+use Rattle.flat_tables.specs.Serials.{serial_of}
+use Rattle.flat_tables.specs.SlotTouches.{home_named}
 use Rattle.paged_tables.specs.KnownPages.{place_over}
 use Rattle.paged_tables.specs.PagedMeaning.{forks_in, lives_in}
 use Rattle.paged_tables.specs.PagedSlots.{filed_over, map_home_over, paged_slots, space_over}

@@ -21,11 +21,11 @@ use Rattle.pager_walk.specs.Walks.{IsNearSlot}
 use Rattle.pager_walk.proofs.Changing.{entry_back}
 use Rattle.pager_walk.proofs.Looking.{ArePages, root_taken, taken_within}
 use Rattle.pager_walk.proofs.NumberedMaps.{index_fork}
-use Rattle.flat_pages.specs.Serials.{serial_of}
-use Rattle.flat_pages.specs.SlotTables.{files_held, filed_total, share_of}
-use Rattle.flat_pages.specs.TableSteps.{next_name}
-use Rattle.flat_pages.proofs.FiledHomes.{files_still}
-use Rattle.flat_pages.proofs.NextSerials.{next_other, next_own}
+use Rattle.flat_tables.specs.Serials.{serial_of}
+use Rattle.flat_tables.specs.SlotTables.{files_held, filed_total, share_of}
+use Rattle.flat_tables.specs.TableSteps.{next_name}
+use Rattle.flat_tables.proofs.FiledHomes.{files_still}
+use Rattle.flat_tables.proofs.NextSerials.{next_other, next_own}
 use Rattle.paged_tables.specs.MadePages.{RenamesPage, pointer_to}
 use Rattle.paged_tables.specs.PagedMeaning.{forks_in, lives_in}
 use Rattle.paged_tables.specs.PagedTables.{Beside, AreKept}

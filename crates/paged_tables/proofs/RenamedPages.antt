@@ -17,8 +17,8 @@ use Rattle.share_table.specs.declared.shares.Share.{Share}
 use Rattle.share_table.specs.declared.shares.SharedPage.{SharedPage}
 use Rattle.share_table.specs.Pointers.{IsPointer}
 use Rattle.share_table.specs.Shares.{Shares, page_at}
-use Rattle.flat_pages.specs.SlotTables.{share_of}
-use Rattle.flat_pages.specs.TableSteps.{next_name}
+use Rattle.flat_tables.specs.SlotTables.{share_of}
+use Rattle.flat_tables.specs.TableSteps.{next_name}
 use Rattle.pager_walk.specs.declared.paged_entry.PagedEntry.{PagedEntry}
 use Rattle.pager_walk.specs.declared.paged_entry.PagedEntry.TheVariants.{Page}
 use Rattle.pager_walk.specs.Decoding.{pointer_in}

@@ -12,13 +12,13 @@ use Rattle.pager_walk.specs.declared.paged_entry.PagedEntry.{PagedEntry}
 use Rattle.pager_walk.specs.declared.paged_entry.PagedEntry.TheVariants as paged
 use Rattle.pager_walk.specs.PagedMaps.{name_at, plain_entry}
 use Rattle.pager_walk.proofs.Looking.{ArePages}
-use Rattle.flat_pages.specs.declared.held_entry.EntryAt.{EntryAt}
-use Rattle.flat_pages.specs.declared.held_entry.HeldEntry.{HeldEntry}
-use Rattle.flat_pages.specs.HeldMaps as flat
-use Rattle.flat_pages.specs.Walks.{slot_of}
-use Rattle.flat_pages.specs.SlotTables.{Tables as FlatTables, files_held, plain_of}
+use Rattle.flat_tables.specs.declared.held_entry.EntryAt.{EntryAt}
+use Rattle.flat_tables.specs.declared.held_entry.HeldEntry.{HeldEntry}
+use Rattle.flat_tables.specs.HeldMaps as flat
+use Rattle.flat_tables.specs.Walks.{slot_of}
+use Rattle.flat_tables.specs.SlotTables.{Tables as FlatTables, files_held, plain_of}
 use Rattle.flat_pages.proofs.Leaving.{told_set}
-use Rattle.flat_pages.proofs.LivingMaps.{entry_held}
+use Rattle.flat_tables.proofs.LivingMaps.{entry_held}
 use Rattle.flat_pages.proofs.Told.{maps_set}
 use Rattle.paged_tables.specs.MapsInMemory.{in_memory}
 use Rattle.paged_tables.specs.PagedTables.{Beside, AreKept, FitsPages, in_memory_over, plain_over}

@@ -9,7 +9,7 @@ use Rattle.std.proofs.lemmas.List.{get_or-set_same, get_or-set_other, get_or_pas
 use Rattle.machine_names.specs.declared.names.PageName.{PageName}
 use Rattle.page_contracts.specs.Pages.{TakesFrames}
 use Rattle.page_contracts.specs.Stores.{HomePlace, free, away, here, away_at, away_home, is_taken, place, with_word_in}
-use Rattle.flat_pages.specs.SlotTouches.{home_named}
+use Rattle.flat_tables.specs.SlotTouches.{home_named}
 use Rattle.flat_pages.proofs.Telling.{named_home}
 use Rattle.flat_pages.proofs.Touching.{home_is}
 use Rattle.pager_walk.specs.MapPages.{index_of, root_at}

@@ -34,16 +34,16 @@ use Rattle.pager_walk.specs.PagedMaps.{AreRooted, look_at, is_near, map_away, ma
 use Rattle.pager_walk.specs.Walks.{IsNearSlot, TellsWalk, WalkStands, WayStands, allows_along, first_absent, walk_at}
 use Rattle.pager_walk.proofs.Looking.{ArePages}
 use Rattle.pager_walk.proofs.NumberedMaps.{index_is}
-use Rattle.flat_pages.specs.declared.held_entry.EntryAt.{EntryAt}
-use Rattle.flat_pages.specs.declared.held_map.HeldMap.{HeldMap}
-use Rattle.flat_pages.specs.declared.chain_walk.Walk.{Walk}
-use Rattle.flat_pages.specs.HeldMaps as flat
-use Rattle.flat_pages.specs.Walks.{slot_of, walk}
-use Rattle.flat_pages.specs.declared.held_entry.HeldEntry.TheVariants as flat_entry
-use Rattle.flat_pages.specs.HeldMaps.{points_at}
-use Rattle.flat_pages.specs.SlotTables.{Tables as FlatTables, filed_total, share_of}
-use Rattle.flat_pages.proofs.HeldEntries.{points_self, total_le}
-use Rattle.flat_pages.specs.SlotTouches.{allows, copy_of, home_named, is_alone, scene_of, touch_copy, touch_filed, touch_made, touch_walked}
+use Rattle.flat_tables.specs.declared.held_entry.EntryAt.{EntryAt}
+use Rattle.flat_tables.specs.declared.held_map.HeldMap.{HeldMap}
+use Rattle.flat_tables.specs.declared.chain_walk.Walk.{Walk}
+use Rattle.flat_tables.specs.HeldMaps as flat
+use Rattle.flat_tables.specs.Walks.{slot_of, walk}
+use Rattle.flat_tables.specs.declared.held_entry.HeldEntry.TheVariants as flat_entry
+use Rattle.flat_tables.specs.HeldMaps.{points_at}
+use Rattle.flat_tables.specs.SlotTables.{Tables as FlatTables, filed_total, share_of}
+use Rattle.flat_tables.proofs.HeldEntries.{points_self, total_le}
+use Rattle.flat_tables.specs.SlotTouches.{allows, copy_of, home_named, is_alone, scene_of, touch_copy, touch_filed, touch_made, touch_walked}
 use Rattle.flat_pages.proofs.FileTouches.{file_told}
 use Rattle.flat_pages.proofs.Meeting.{place_told}
 use Rattle.flat_pages.proofs.Settling.{sized_of}

@@ -24,14 +24,14 @@ use Rattle.pager_walk.specs.Walks as paged
 use Rattle.pager_walk.proofs.Looking.{ArePages, content_here, root_taken, words_whole, stands_at}
 use Rattle.pager_walk.specs.PagedMaps.{LookStands}
 use Rattle.pager_walk.proofs.NumberedMaps.{index_fork}
-use Rattle.flat_pages.specs.declared.held_entry.EntryAt.{EntryAt}
-use Rattle.flat_pages.specs.declared.held_entry.HeldEntry.{HeldEntry}
-use Rattle.flat_pages.specs.declared.held_entry.HeldEntry.TheVariants as entry
-use Rattle.flat_pages.specs.declared.held_entry.Link.{Link}
-use Rattle.flat_pages.specs.declared.held_map.HeldMap.{HeldMap}
-use Rattle.flat_pages.specs.declared.chain_walk.Walk.{Walk}
-use Rattle.flat_pages.specs.HeldMaps as flat
-use Rattle.flat_pages.specs.Walks.{slot_of, terminal_of, next_at, walk, walk_behind, walk_end, walk_from, walk_within}
+use Rattle.flat_tables.specs.declared.held_entry.EntryAt.{EntryAt}
+use Rattle.flat_tables.specs.declared.held_entry.HeldEntry.{HeldEntry}
+use Rattle.flat_tables.specs.declared.held_entry.HeldEntry.TheVariants as entry
+use Rattle.flat_tables.specs.declared.held_entry.Link.{Link}
+use Rattle.flat_tables.specs.declared.held_map.HeldMap.{HeldMap}
+use Rattle.flat_tables.specs.declared.chain_walk.Walk.{Walk}
+use Rattle.flat_tables.specs.HeldMaps as flat
+use Rattle.flat_tables.specs.Walks.{slot_of, terminal_of, next_at, walk, walk_behind, walk_end, walk_from, walk_within}
 use Rattle.paged_tables.specs.MapsInMemory.{entry_held, in_memory, maps_in_memory}
 use Rattle.paged_tables.proofs.MapsTold.{entry_told, fork_told, index_told}
 

@@ -18,13 +18,13 @@ use Rattle.pager_walk.specs.declared.chain_walk.Walked.TheVariants.{Along}
 use Rattle.pager_walk.specs.MapPages.{index_of}
 use Rattle.pager_walk.specs.Walks.{WayStands, walk_at}
 use Rattle.pager_walk.proofs.Looking.{ArePages}
-use Rattle.flat_pages.specs.declared.held_entry.HeldEntry.TheVariants.{Empty}
-use Rattle.flat_pages.specs.declared.chain_walk.Walk.{Walk}
-use Rattle.flat_pages.specs.HeldMaps as flat
-use Rattle.flat_pages.specs.Walks.{walk}
-use Rattle.flat_pages.specs.SlotTables.{Tables as FlatTables, plain_of}
-use Rattle.flat_pages.specs.SlotTouches.{scene_of, touch_walked}
-use Rattle.flat_pages.specs.TableSteps.{home_taken}
+use Rattle.flat_tables.specs.declared.held_entry.HeldEntry.TheVariants.{Empty}
+use Rattle.flat_tables.specs.declared.chain_walk.Walk.{Walk}
+use Rattle.flat_tables.specs.HeldMaps as flat
+use Rattle.flat_tables.specs.Walks.{walk}
+use Rattle.flat_tables.specs.SlotTables.{Tables as FlatTables, plain_of}
+use Rattle.flat_tables.specs.SlotTouches.{scene_of, touch_walked}
+use Rattle.flat_tables.specs.TableSteps.{home_taken}
 use Rattle.flat_pages.proofs.Settled.{Announced, walk_found, zero_settled}
 use Rattle.paged_tables.specs.MadePages.{MakesPage}
 use Rattle.paged_tables.specs.PagedTables.{Beside, AreKept, FitsPages, in_memory_over, plain_over}

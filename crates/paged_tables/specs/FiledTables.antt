@@ -5,7 +5,7 @@ use Rattle.machine_names.specs.Orders.{FilePage}
 use Rattle.page_homes.specs.declared.homes.Home.{Home}
 use Rattle.share_table.specs.declared.shares.Share.{Share}
 use Rattle.share_table.specs.Shares.{Shares, joined, with_page}
-use Rattle.flat_pages.specs.SlotTables.{share_of}
+use Rattle.flat_tables.specs.SlotTables.{share_of}
 use Rattle.paged_tables.specs.LeftShares.{left_by_one}
 use Rattle.paged_tables.specs.NameCounts.{share_at}
 use Rattle.paged_tables.specs.PagedTables.{Beside}

@@ -14,8 +14,8 @@ use Rattle.share_table.specs.declared.pointer.Pointer.TheVariants.{Private, Shar
 use Rattle.share_table.specs.declared.shares.Share.{Share}
 use Rattle.share_table.specs.Pointers.{pointer_word}
 use Rattle.share_table.specs.Shares.{Shares}
-use Rattle.flat_pages.specs.Serials.{with_next}
-use Rattle.flat_pages.specs.TableSteps.{next_name}
+use Rattle.flat_tables.specs.Serials.{with_next}
+use Rattle.flat_tables.specs.TableSteps.{next_name}
 use Rattle.pager_walk.specs.MapPages.{index_of, root_at}
 use Rattle.pager_walk.specs.PagedMaps.{FitsMaps, with_name}
 use Rattle.paged_tables.specs.NameCounts.{share_at}

@@ -7,10 +7,10 @@ use Rattle.pager_walk.specs.declared.map_pages.MapPage.{MapPage}
 use Rattle.pager_walk.specs.declared.paged_entry.PagedEntry.{PagedEntry}
 use Rattle.pager_walk.specs.declared.paged_entry.PagedEntry.TheVariants as paged
 use Rattle.pager_walk.specs.PagedMaps.{Tables, entry_in, words_in}
-use Rattle.flat_pages.specs.declared.held_entry.HeldEntry.{HeldEntry}
-use Rattle.flat_pages.specs.declared.held_entry.HeldEntry.TheVariants.{Empty, Page, Follows}
-use Rattle.flat_pages.specs.declared.held_map.HeldMap.{HeldMap}
-use Rattle.flat_pages.specs.HeldMaps.{no_page}
+use Rattle.flat_tables.specs.declared.held_entry.HeldEntry.{HeldEntry}
+use Rattle.flat_tables.specs.declared.held_entry.HeldEntry.TheVariants.{Empty, Page, Follows}
+use Rattle.flat_tables.specs.declared.held_map.HeldMap.{HeldMap}
+use Rattle.flat_tables.specs.HeldMaps.{no_page}
 
 -- the same entry in memory
 abbrev pub in_memory : PagedEntry → HeldEntry

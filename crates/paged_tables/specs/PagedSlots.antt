@@ -9,10 +9,10 @@ use Rattle.machine_names.specs.Orders.{FilePage}
 use Rattle.page_contracts.specs.declared.answers.SpaceHandle.{SpaceHandle}
 use Rattle.page_contracts.specs.Stores.{StoreMeaning}
 use Rattle.page_contracts.specs.Pages.{PagesMeaning}
-use Rattle.flat_pages.specs.Serials.{serial_of}
+use Rattle.flat_tables.specs.Serials.{serial_of}
 use Rattle.flat_pages.specs.SlotMeaning.{within}
-use Rattle.flat_pages.specs.SlotTables.{files_held}
-use Rattle.flat_pages.specs.SlotTouches.{home_named}
+use Rattle.flat_tables.specs.SlotTables.{files_held}
+use Rattle.flat_tables.specs.SlotTouches.{home_named}
 use Rattle.pager_walk.specs.MapPages.{index_of, root_at}
 use Rattle.pager_walk.specs.PagedMaps.{look_at, seen_for}
 use Rattle.paged_tables.specs.KnownPages.{place_over}

@@ -14,9 +14,9 @@ use Rattle.plain_pages.specs.PlainPages.{NumberedPages}
 use Rattle.share_table.specs.declared.shares.Share.{Share}
 use Rattle.share_table.specs.declared.shares.SharedPage.{SharedPage}
 use Rattle.share_table.specs.Shares.{Shares, page_at}
-use Rattle.flat_pages.specs.declared.page_serials.PageSerials.{PageSerials}
-use Rattle.flat_pages.specs.Serials.{serial_of}
-use Rattle.flat_pages.specs.SlotTables.{Tables as FlatTables, AreTables, filed_total, plain_of, share_of}
+use Rattle.flat_tables.specs.declared.page_serials.PageSerials.{PageSerials}
+use Rattle.flat_tables.specs.Serials.{serial_of}
+use Rattle.flat_tables.specs.SlotTables.{Tables as FlatTables, AreTables, filed_total, plain_of, share_of}
 use Rattle.pager_walk.specs.PagedMaps.{Tables, AreRooted, FitsMaps, name_at, tables_of}
 use Rattle.paged_tables.specs.declared.paged_tables.PagedTables.{PagedTables}
 use Rattle.paged_tables.specs.PagedPlaces.{page_places}

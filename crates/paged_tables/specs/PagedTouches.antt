@@ -21,8 +21,8 @@ use Rattle.pager_walk.specs.declared.paged_entry.Looked.TheVariants.{Is, Missing
 use Rattle.pager_walk.specs.declared.paged_entry.PagedEntry.TheVariants.{Empty, Page, Follows}
 use Rattle.pager_walk.specs.PagedMaps.{look_at, map_away, name_at}
 use Rattle.pager_walk.specs.Walks.{allows_along, walk_at}
-use Rattle.flat_pages.specs.SlotTables.{share_of}
-use Rattle.flat_pages.specs.SlotTouches.{home_named}
+use Rattle.flat_tables.specs.SlotTables.{share_of}
+use Rattle.flat_tables.specs.SlotTouches.{home_named}
 use Rattle.paged_tables.specs.NameCounts.{count_of, share_at}
 use Rattle.paged_tables.specs.PagedTables.{Beside}
 

@@ -14,7 +14,7 @@ use Rattle.page_contracts.specs.DrumWords.{DrumWords}
 use Rattle.page_contracts.specs.Pages.{SettlesTo, TakesFrames, frames_taken, map_set, spot_of}
 use Rattle.page_contracts.specs.Stores.{HomePlace, IsUsed, Loses, RenewsBoth, RenewsOne, StoreMeaning, is_here, is_taken, place, traffic, with_word_in}
 use Rattle.plain_pages.specs.References.{next_making, settled}
-use Rattle.flat_pages.specs.Serials.{serial_of}
+use Rattle.flat_tables.specs.Serials.{serial_of}
 use Rattle.pager_walk.specs.MapPages.{index_of, root_at}
 use Rattle.pager_walk.specs.PagedMaps.{name_at}
 use Rattle.paged_tables.specs.declared.page_home.PageHome.TheVariants.{At}

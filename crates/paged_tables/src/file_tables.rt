@@ -4,7 +4,7 @@ ghost use Rattle.std.specs.FinMap as fin;
 ghost use Rattle.machine_names.specs.Bounds.{IsFilePage};
 ghost use Rattle.machine_names.specs.Orders.{file_page};
 ghost use Rattle.share_table.specs.Shares.{page_at};
-ghost use Rattle.flat_pages.specs.SlotTables.{share_of};
+ghost use Rattle.flat_tables.specs.SlotTables.{share_of};
 ghost use Rattle.paged_tables.specs.FiledTables.{filed_freed, filed_joined, filed_left, joined_by_one, with_share};
 ghost use Rattle.paged_tables.specs.MadePages.{with_shares};
 ghost use Rattle.paged_tables.specs.PagedTables.{beside_of};

@@ -1,13 +1,13 @@
 // What is kept beside a store whose pages are maps and pages of forks and files.
 ghost use Rattle.std.specs.Prelude.{◌≡◌, ◌+◌, ◌<◌, ◌≤◌, ◌^◌, None, IfOk, map, replicate, slice_set};
 ghost use Rattle.machine_names.specs.Bounds.{IsOwner};
-ghost use Rattle.flat_pages.specs.Serials.{serial_of, with_next};
-ghost use Rattle.flat_pages.specs.TableSteps.{next_name};
+ghost use Rattle.flat_tables.specs.Serials.{serial_of, with_next};
+ghost use Rattle.flat_tables.specs.TableSteps.{next_name};
 ghost use Rattle.std.specs.FinMap as fin;
 ghost use Rattle.machine_names.specs.Bounds.{IsFilePage};
 ghost use Rattle.machine_names.specs.Orders.{file_page};
 
-use flat_pages::PageSerials;
+use flat_tables::PageSerials;
 use machine_names::{Access, FileNo, PageName, Tty};
 use outside::Memory;
 use page_files::Files;
@@ -60,7 +60,7 @@ impl PagedTables {
     ghost use Rattle.page_contracts.specs.DrumWords.{DrumWords};
     ghost use Rattle.page_contracts.specs.Stores.{FitsHomes, HomePlace, is_taken};
     ghost use Rattle.plain_pages.specs.PlainPages.{first_serials};
-    ghost use Rattle.flat_pages.specs.SlotTables.{share_of};
+    ghost use Rattle.flat_tables.specs.SlotTables.{share_of};
     ghost use Rattle.pager_walk.specs.MapPages.{no_map};
     ghost use Rattle.pager_walk.specs.PagedMaps.{AreRooted, FitsMaps, tables_of, with_name};
     ghost use Rattle.pager_walk.specs.declared.map_pages.TheConstants.{MOST_MAPS};

@@ -16,9 +16,9 @@ use Rattle.page_contracts.specs.Stores.{HomePlace, IsSound, StoreMeaning, away, 
 use Rattle.page_contracts.proofs.HomeCounts.{taken_or_free}
 use Rattle.plain_pages.specs.WholePages.{AreWhole}
 use Rattle.flat_pages.specs.SlotMeaning.{AreTold, sound_within}
-use Rattle.flat_pages.specs.SlotTouches.{home_named}
+use Rattle.flat_tables.specs.SlotTouches.{home_named}
 use Rattle.flat_pages.proofs.Agreement.{tables_whole}
-use Rattle.flat_pages.proofs.FiledHomes.{get_filed}
+use Rattle.flat_tables.proofs.FiledHomes.{get_filed}
 use Rattle.flat_pages.proofs.Telling.{named_home, tables_told}
 use Rattle.flat_pages.proofs.Touching.{home_is}
 use Rattle.pager_walk.specs.declared.map_pages.MapPage.{MapPage}

@@ -43,7 +43,7 @@ impl<S: Store> SlotPaged<S> {
     ghost use Rattle.machine_names.specs.Orders.{file_page};
     ghost use Rattle.page_homes.specs.declared.homes.Home.{Home as AHome};
     ghost use Rattle.page_contracts.specs.Stores.{is_here, place};
-    ghost use Rattle.flat_pages.specs.Serials.{serial_of};
+    ghost use Rattle.flat_tables.specs.Serials.{serial_of};
     ghost use Rattle.pager_walk.specs.PagedMaps.{is_near, look_at};
     ghost use Rattle.paged_tables.specs.LeftShares.{left_of};
     ghost use Rattle.paged_tables.specs.MadePages.{FilesPage, MakesPage, RenamesPage, page_like};
@@ -111,7 +111,7 @@ impl<S: Store> SlotPaged<S> {
     ghost use Rattle.machine_names.specs.declared.names.TheConstants.{SPACE_PAGES};
     ghost use Rattle.machine_names.specs.Bounds.{IsFilePage, IsOwner};
     ghost use Rattle.page_contracts.specs.Pages.{IsPlace, can_settle};
-    ghost use Rattle.flat_pages.specs.Serials.{serial_of};
+    ghost use Rattle.flat_tables.specs.Serials.{serial_of};
     ghost use Rattle.pager_walk.specs.declared.chain_walk.Walked.TheVariants.{Along};
     ghost use Rattle.pager_walk.specs.MapPages.{index_of};
     ghost use Rattle.pager_walk.specs.Walks.{WayStands, walk_at};

@@ -44,7 +44,7 @@ impl<S: Store + Drop> SlotPaged<S> {
     ghost use Rattle.machine_names.specs.declared.names.Tty.{Tty as ATty};
     ghost use Rattle.page_contracts.specs.DrumWords.{DrumWords};
     ghost use Rattle.page_contracts.specs.Stores.{FitsHomes, free};
-    ghost use Rattle.flat_pages.specs.Serials.{serial_of};
+    ghost use Rattle.flat_tables.specs.Serials.{serial_of};
     ghost use Rattle.plain_pages.specs.PlainPages.{opening_pages};
     ghost use Rattle.paged_tables.specs.PagedTables.{FitsPages, beside_of, plain_over};
     ghost use Rattle.paged_tables.specs.PagedMeaning.{forks_in, lives_in};

@@ -11,10 +11,6 @@ fn the_laws_are_called(_rt: HostRuntime) {
     file_tables::numbers_follow_the_names();
     file_tables::pages_follow_the_names();
     file_tables::times_follow_the_jfns();
-    pager_walk::walks_go_by_the_chain();
-    pager_walk::refused_words_lead_nowhere();
-    pager_walk::a_map_is_its_page();
-    pager_walk::transfers_change_no_map();
     tty_lines::oldest_first();
     tty_lines::typed_in_order();
     exec_cmd::one_command();

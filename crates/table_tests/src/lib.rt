@@ -1,4 +1,4 @@
-//! Tests of the monitor's tables: numbers, the scheduler's lists, files, JFNs, frames, shares, maps that are pages, the drum's queue, typing and commands.
+//! Tests of the monitor's tables: numbers, files, JFNs, frames, shares, the drum's queue, typing and commands.
 //! No layer stands above; to a reader each test is a table's life, step by step.
 //! Stands on the crates of tables.
 #![tactic(auto)]
@@ -22,8 +22,6 @@ mod laws;
 #[cfg(test)]
 mod made;
 #[cfg(test)]
-mod maps;
-#[cfg(test)]
 mod named;
 #[cfg(test)]
 mod numbers;
@@ -31,8 +29,6 @@ mod numbers;
 mod orders;
 #[cfg(test)]
 mod same;
-#[cfg(test)]
-mod schedules;
 #[cfg(test)]
 mod shares;
 #[cfg(test)]

@@ -1,6 +1,6 @@
-// The canonical line of each event, byte for byte.
+// Each kind of event with its canonical line. What other lines are, rows of script_line_rows say.
 use crate::events::is_event;
-use crate::same::{same, same_for};
+use crate::same::same_for;
 use machine_names::{DirName, FileName, Tty, TypedText};
 use script_lang::{LineRoom, Read, read_line, write_line};
 use script_texts::{Event, WordRow};
@@ -36,7 +36,6 @@ fn writes_lines_of_terminals(rt: HostRuntime) {
         Event::Poke(Tty(0), 0o100, word),
         b"POKE 0 100 350000007",
     );
-    writes(&rt, Event::Poke(Tty(9), 0, Word::ZERO), b"POKE 9 0 0");
     writes(&rt, Event::Start(Tty(10), 0o777777), b"START 10 777777");
     writes(
         &rt,
@@ -58,9 +57,7 @@ fn writes_lines_of_counts(rt: HostRuntime) {
     writes(&rt, Event::Evict(9_999_999), b"EVICT 9999999");
     writes(&rt, Event::Drum(0), b"DRUM 0");
     writes(&rt, Event::Auto(true), b"AUTO ON");
-    writes(&rt, Event::Auto(false), b"AUTO OFF");
     writes(&rt, Event::Trace(true), b"TRACE ON");
-    writes(&rt, Event::Trace(false), b"TRACE OFF");
 }
 
 #[test]
@@ -76,27 +73,4 @@ fn writes_lines_of_files(rt: HostRuntime) {
         b"WORDS <SYS>A-1. 20 776 777777777777 0",
     );
     writes(&rt, Event::Page(name, 0o777), b"PAGE <SYS>A-1. 777");
-}
-
-// 50 characters of four bytes, and 49 of one.
-const TYPED: &[u8; 99] =
-    b"\x07\x07\x07\x07\x07\x07\x07\x07\x07\x07\x07\x07\x07\x07\x07\x07\x07\x07\x07\x07\x07\x07\x07\x07\x07\
-      \x07\x07\x07\x07\x07\x07\x07\x07\x07\x07\x07\x07\x07\x07\x07\x07\x07\x07\x07\x07\x07\x07\x07\x07\x07AAAAAAAAAAAAAAAAAAAAAAAAAAAAAAAAAAAAAAAAAAAAAAAAA";
-
-// The line that types them.
-const LONGEST: &[u8; 256] =
-    b"TYPE 0 \\007\\007\\007\\007\\007\\007\\007\\007\\007\\007\\007\\007\\007\\007\\007\\007\\007\\007\\007\\007\\007\\007\\007\\007\\007\
-      \\007\\007\\007\\007\\007\\007\\007\\007\\007\\007\\007\\007\\007\\007\\007\\007\\007\\007\\007\\007\\007\\007\\007\\007\\007AAAAAAAAAAAAAAAAAAAAAAAAAAAAAAAAAAAAAAAAAAAAAAAAA";
-
-#[test]
-fn fills_the_room(rt: HostRuntime) {
-    let mut room = [0; 256];
-    let event = Event::TypeIn(Tty(0), TypedText::new(TYPED));
-    same(&rt, is_line_of(&mut room, LONGEST, &event), true);
-    same(&rt, &room[..11], b"TYPE 0 \\007".as_slice());
-    same(
-        &rt,
-        &room[203..],
-        b"\\007AAAAAAAAAAAAAAAAAAAAAAAAAAAAAAAAAAAAAAAAAAAAAAAAA".as_slice(),
-    );
 }

@@ -20,13 +20,9 @@ mod generated;
 #[cfg(test)]
 mod laws;
 #[cfg(test)]
-mod lines;
-#[cfg(test)]
 mod made;
 #[cfg(test)]
 mod pieces;
-#[cfg(test)]
-mod runs;
 #[cfg(test)]
 mod same;
 #[cfg(test)]

@@ -6,6 +6,7 @@ use Rattle.std.proofs.lemmas.List.Elements.{All-head, All-tail}
 use Rattle.script_texts.specs.declared.event.Event.{Event}
 use Rattle.script_texts.specs.declared.event.Event.TheVariants.{Login, TypeIn, File, Words, Poke, Start, Run, Tick, Evict, Drum, Auto, Examine, Forks, Page, Trace}
 use Rattle.script_texts.specs.declared.event.Step.{Step}
+use Rattle.script_texts.specs.declared.event.Step.TheVariants.{Outer, Unit as AUnit, Idle}
 use Rattle.script_texts.specs.Entries.{EntriesOf, FitsRecord}
 use Rattle.script_texts.specs.Script.{HasNoFeed}
 use Rattle.script_texts.specs.Texts.{field, line_of, record_text}

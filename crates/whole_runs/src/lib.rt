@@ -10,6 +10,8 @@ mod cuts;
 #[cfg(test)]
 mod failures;
 #[cfg(test)]
+mod faultless;
+#[cfg(test)]
 mod files;
 #[cfg(test)]
 mod first;

@@ -2,20 +2,20 @@
 ghost use Rattle.std.specs.Prelude.{◌≡◌, ◌≢◌, ◌-◌, ◌≤◌, MatchOption, true};
 ghost use Rattle.fork_lists.specs.Ties.{AreTied};
 ghost use Rattle.job_sched.specs.Lines.{Nears, is_in_line};
+ghost use Rattle.job_sched.specs.Ties.{WaitsLess};
 ghost use Rattle.job_sched.specs.Units.{IsRow, row_ran};
 ghost use Rattle.machine_names.specs.declared.names.ForkName.{ForkName as AForkName};
 ghost use Rattle.plain_model.specs.Forks.{IsRunnable};
 ghost use Rattle.machine_names.specs.Bounds.{IsTerminal};
 ghost use Rattle.script_texts.specs.Limits.{FitsEvent};
 ghost use Rattle.monitor_core.specs.Echoes.{FitsEcho};
-ghost use Rattle.monitor_core.specs.Following.{AreFollowed, IsAt, IsFollowed, IsHead, IsNowhere, IsOf, IsOfNone, RowEnded};
+ghost use Rattle.monitor_core.specs.Following.{AreFollowed, IsAt, IsFollowed, IsHead, IsNowhere, IsOf, IsOfNone, RowEnded, last_counted, reach_followed};
 
 use crate::echo::Echo;
-use crate::runner::Runner;
-use crate::units::Reach;
 use fork_lists::ForkLists;
 use fork_tree::Tree;
 use machine_names::Tty;
+use monitor_calls::{Reach, Runner};
 use script_texts::Event;
 
 /// A row of units of the head is over, which has reached so far among the forks: the units before the last are counted to its quantum, who stopped
@@ -26,7 +26,9 @@ pub fn end_row(lists: &mut ForkLists, tree: &Tree, who: Runner, reach: Reach, co
     requires head { IsHead lists.old.sched who.fork }
     requires row { IsRow count lists.old.sched }
     requires some { 1 ≤ count }
+    ensures schedule { lists.new.sched ≡ last_counted who.fork (reach_followed reach tree.now who.fork lists.old.seen.items (row_ran (count - 1) lists.old.sched)) }
     ensures tied { AreTied tree.now.forks lists.new }
+    ensures waits { WaitsLess lists.old.sched.waiting lists.new.sched.waiting }
     ensures closer { (f : AForkName) → IsRunnable tree.now.forks f → f ≢ who.fork → is_in_line f lists.old.sched ≡ true → Nears f (row_ran (count - 1) lists.old.sched) lists.new.sched 1 }
 {
     lists.sound();
@@ -62,7 +64,8 @@ fn terminal_of(e: &Event) -> Option<Tty>
 pub fn follow_event(lists: &mut ForkLists, tree: &Tree, e: &Event)
     requires fits { FitsEvent e.now }
     requires followed { AreFollowed lists.old tree.now e.now }
-    ensures { AreTied tree.now.forks lists.new }
+    ensures tied { AreTied tree.now.forks lists.new }
+    ensures waits { WaitsLess lists.old.sched.waiting lists.new.sched.waiting }
 {
     tree.are_trees();
     match terminal_of(e) {
@@ -97,7 +100,8 @@ pub fn follow_typed(lists: &mut ForkLists, tree: &Tree, t: Tty, shown: &Echo)
     requires terminal { IsTerminal t }
     requires fits { FitsEcho shown.now }
     requires followed { IsFollowed lists.old tree.now t shown.now }
-    ensures { AreTied tree.now.forks lists.new }
+    ensures tied { AreTied tree.now.forks lists.new }
+    ensures waits { WaitsLess lists.old.sched.waiting lists.new.sched.waiting }
 {
     tree.are_trees();
     match reached_terminal(t, shown) {

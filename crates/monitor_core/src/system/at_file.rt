@@ -11,8 +11,8 @@ ghost use Rattle.monitor_core.specs.Systems.{Did, IsWithin};
 use crate::reaching::reach;
 use crate::reply::Reply;
 use crate::system::System;
-use crate::writing::write_row;
 use machine_names::{FileName, PAGE_ADDRESSES, Place, Tty};
+use monitor_calls::write_row;
 use page_contracts::Pages;
 use script_texts::{Refusal, WordRow};
 

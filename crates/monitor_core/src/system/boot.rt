@@ -5,15 +5,14 @@ ghost use Rattle.machine_names.specs.declared.names.Tty.{Tty as ATty};
 ghost use Rattle.std.specs.FinMap as map;
 ghost use Rattle.file_tables.specs.Tables.{files_of, no_jobs as no_jfns, open_of};
 ghost use Rattle.fork_tree.specs.Trees.{no_forks};
-ghost use Rattle.monitor_core.specs.Jobs.{no_jobs};
+ghost use Rattle.monitor_calls.specs.Jobs.{no_jobs};
 
-use crate::job::empty_jobs;
 use crate::panel::Panel;
 use crate::system::System;
-use crate::typing::empty_typings;
 use file_tables::FileTables;
 use fork_tree::Tree;
 use machine_names::TERMINALS;
+use monitor_calls::{empty_jobs, empty_typings};
 use outside::Memory;
 use page_contracts::Pages;
 use std::alloc::Global;

@@ -8,10 +8,10 @@ ghost use Rattle.monitor_core.specs.Effects.{Has, HasJobAt, job_in};
 
 use crate::echo::{Complaint, Told};
 use crate::forks::start;
-use crate::job::Job;
 use crate::system::System;
 use job_commands::{delete, go_on, log_out, run};
 use machine_names::{FileName, Tty};
+use monitor_calls::Job;
 use page_contracts::Pages;
 use plain_model::TerminalMode;
 use plain_typing::Command;

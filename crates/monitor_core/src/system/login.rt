@@ -5,15 +5,15 @@ ghost use Rattle.plain_model.specs.Forks.{OthersStay};
 ghost use Rattle.script_texts.specs.declared.event.Event.{Event as AnEvent};
 ghost use Rattle.script_texts.specs.declared.event.Step.{Step as AStep};
 ghost use Rattle.fork_tree.specs.Making.{room_for};
-ghost use Rattle.monitor_core.specs.Jobs.{job_at};
+ghost use Rattle.monitor_calls.specs.Jobs.{job_at};
 ghost use Rattle.monitor_core.specs.Replies.{reply_of};
 ghost use Rattle.monitor_core.specs.Systems.{Did, Waits};
 
-use crate::job::Job;
 use crate::reply::Reply;
 use crate::system::System;
 use fork_tree::NoFork;
 use machine_names::{DirName, ForkName, Tty, character};
+use monitor_calls::Job;
 use page_contracts::{Need, Pages, Room};
 use plain_pages::NewMap;
 use script_texts::{Item, Refusal};

@@ -2,12 +2,12 @@
 ghost use Rattle.std.specs.Prelude.{◌≡◌};
 ghost use Rattle.plain_model.specs.Forks.{IsRunnable};
 ghost use Rattle.fork_tree.specs.Trees.{IsTree};
-ghost use Rattle.monitor_core.specs.Runners.{IsRunner};
+ghost use Rattle.monitor_calls.specs.Runners.{IsRunner};
 
-use crate::runner::Runner;
 use crate::system::System;
 use fork_tree::Tree;
 use machine_names::ForkName;
+use monitor_calls::Runner;
 use page_contracts::Pages;
 
 impl<P: Pages> System<P> {

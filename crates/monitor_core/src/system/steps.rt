@@ -5,20 +5,19 @@ ghost use Rattle.script_texts.specs.Limits.{FitsStep};
 ghost use Rattle.script_texts.specs.declared.event.Event.{Event as AnEvent};
 ghost use Rattle.script_texts.specs.declared.event.Step.{Step as AStep};
 ghost use Rattle.monitor_core.specs.Effects.{IsAtOnce};
-ghost use Rattle.monitor_core.specs.Reaching.{EventReaches, Reaches};
+ghost use Rattle.monitor_core.specs.Reaching.{EventReaches};
+ghost use Rattle.monitor_calls.specs.Reaching.{Reaches};
 ghost use Rattle.monitor_core.specs.Replies.{line_before, reply_of};
-ghost use Rattle.monitor_core.specs.Runners.{IsRunner, told_at};
+ghost use Rattle.monitor_calls.specs.Runners.{IsRunner, told_at};
 ghost use Rattle.monitor_core.specs.Systems.{CanDo, Did, DidAll, IsWithin, Waits};
 
-use crate::job::seen;
 use crate::job_event::JobEvent;
 use crate::progress::Progress;
 use crate::reply::Reply;
-use crate::runner::Runner;
 use crate::system::System;
-use crate::units::{Reach, units_of};
 use fork_tree::Tree;
 use machine_names::ForkName;
+use monitor_calls::{Reach, Runner, seen, units_of};
 use page_contracts::{Need, Pages};
 use script_texts::{Event, Item, Refusal};
 

@@ -10,7 +10,7 @@ use Rattle.plain_model.specs.Trees.{PlainTree}
 use Rattle.std.specs.FinMap as map
 use Rattle.fork_tree.proofs.Slots.{held_lives}
 use Rattle.fork_tree.proofs.Leaves.{inferior_lives}
-use Rattle.ka10_in_place.proofs.Stored.{lost_on}
+use Rattle.ka10_spots.proofs.Stored.{lost_on}
 use Rattle.fork_calls.specs.Holding.{TopsStay}
 use Rattle.fork_calls.specs.Turning.{parts}
 use Rattle.fork_calls.proofs.Branch.{below_younger, kill_changes, made_on}

@@ -13,7 +13,7 @@ use Rattle.plain_model.proofs.OtherJobs.{gone_others, others_itself, others_on}
 use Rattle.fork_tree.specs.Inferiors.{HasNoInferior}
 use Rattle.fork_tree.proofs.Killing.{below_in, fewer_counted, last_once, none_counted}
 use Rattle.fork_tree.proofs.Upward.{tally, tally_most}
-use Rattle.ka10_in_place.proofs.Stored.{lost_none, lost_on}
+use Rattle.ka10_spots.proofs.Stored.{lost_none, lost_on}
 use Rattle.fork_calls.specs.Holding.{TopsStay}
 use Rattle.fork_calls.specs.Needing.{AreMapsHere, GoesWith}
 use Rattle.fork_calls.specs.Turning.{parts}

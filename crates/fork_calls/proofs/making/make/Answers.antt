@@ -26,7 +26,7 @@ use Rattle.call_turns.specs.Answers.{AnswerNeeds, IsDone, answer_of}
 use Rattle.ka10_unit.specs.Carrying.{Grows}
 use Rattle.ka10_unit.specs.Gathers.{framed}
 use Rattle.ka10_unit.specs.Taking.{most_frames}
-use Rattle.ka10_in_place.proofs.Stored.{lost_on}
+use Rattle.ka10_spots.proofs.Stored.{lost_on}
 use Rattle.fork_tree.specs.Making.{AddsLast}
 use Rattle.fork_tree.specs.Trees.{AreSlotted, IsTree}
 use Rattle.fork_tree.proofs.Kept.{name_unused}

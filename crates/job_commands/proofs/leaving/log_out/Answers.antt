@@ -8,7 +8,7 @@ use Rattle.plain_model.specs.Trees.{PlainTree}
 use Rattle.plain_model.proofs.ForkMaps.{get_gone, get_gone_other}
 use Rattle.plain_model.proofs.OtherJobs.{gone_others, others_on}
 use Rattle.fork_tree.proofs.Kept.{top_lives}
-use Rattle.ka10_in_place.proofs.Stored.{lost_on}
+use Rattle.ka10_spots.proofs.Stored.{lost_on}
 use Rattle.fork_calls.proofs.Branch.{made_on}
 use Rattle.fork_calls.proofs.Places.{come_on}
 use Rattle.job_commands.proofs.Tops.{top_is}

@@ -5,7 +5,7 @@ use Rattle.plain_model.specs.Trees.{PlainTree, changed}
 use Rattle.plain_model.proofs.OtherJobs.{named_others, others_itself, others_on}
 use Rattle.plain_model.specs.Commands.{begun_at}
 use Rattle.fork_tree.proofs.Slots.{held_lives}
-use Rattle.ka10_in_place.proofs.Stored.{lost_none, lost_on}
+use Rattle.ka10_spots.proofs.Stored.{lost_none, lost_on}
 use Rattle.fork_calls.proofs.Branch.{made_on, none_made}
 use Rattle.fork_calls.proofs.Holdings.{grown_made, holds_same, holds_still}
 use Rattle.fork_calls.proofs.Places.{Keep, came_itself, changed_keeps, come_on}

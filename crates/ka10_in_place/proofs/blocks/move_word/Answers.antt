@@ -5,7 +5,7 @@ use Rattle.ka10_in_place.specs.InPlace.{Finish, InPlace}
 use Rattle.ka10_in_place.proofs.BlockLemmas.{blt, blt_row, blt_deed}
 use Rattle.ka10_in_place.proofs.Placing.{deed_in_place, in_place_behind}
 use Rattle.ka10_in_place.proofs.Placing.{used_in_place}
-use Rattle.ka10_in_place.proofs.Used.{space_stays}
+use Rattle.ka10_spots.proofs.Used.{space_stays}
 use Rattle.ka10_in_place.proofs.blocks.move_word.Goals as goal
 
 pub returns-in-Some : goal.returns-in-Some

@@ -1,6 +1,6 @@
 use Rattle.std.proofs.Common.{ℕ, Option, subst}
 use Rattle.plain_units.specs.Deeds.{deed_of}
-use Rattle.ka10_in_place.specs.Spots.{StoredIf}
+use Rattle.ka10_spots.specs.Spots.{StoredIf}
 use Rattle.ka10_in_place.proofs.BlockLemmas.{block_in_place}
 use Rattle.ka10_in_place.proofs.Placing.{slow_in_place}
 use Rattle.ka10_in_place.proofs.blocks.store_word.Goals as goal

@@ -1,6 +1,6 @@
 use Rattle.std.proofs.Common.{refl}
 use Rattle.ka10_in_place.proofs.BurstLemmas.{so_far_none, so_far_more, ends_overflow, ends_pushdown, ends_slow}
-use Rattle.ka10_in_place.proofs.Used.{space_stays}
+use Rattle.ka10_spots.proofs.Used.{space_stays}
 use Rattle.ka10_in_place.proofs.bursts.burst.Goals as goal
 
 pub loop-units-init : goal.loop-units-init

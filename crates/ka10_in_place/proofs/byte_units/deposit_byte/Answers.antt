@@ -1,6 +1,6 @@
 use Rattle.ka10_in_place.proofs.ByteLemmas.{depositing_in_place}
 use Rattle.ka10_in_place.proofs.Placing.{in_place_behind, used_in_place}
-use Rattle.ka10_in_place.proofs.Used.{space_stays}
+use Rattle.ka10_spots.proofs.Used.{space_stays}
 use Rattle.ka10_in_place.proofs.byte_units.deposit_byte.Goals as goal
 
 pub returns-in-Some : goal.returns-in-Some

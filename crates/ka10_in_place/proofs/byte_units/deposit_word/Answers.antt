@@ -7,7 +7,7 @@ use Rattle.ka10_deeds.specs.Done.{Leaves}
 use Rattle.ka10_in_place.proofs.Placing.{finish_behind}
 use Rattle.ka10_in_place.proofs.ByteLemmas.{behind_word, begun_in_place, takes_begun}
 use Rattle.ka10_in_place.proofs.Placing.{slow_in_place}
-use Rattle.ka10_in_place.proofs.Used.{space_stays, spot_still}
+use Rattle.ka10_spots.proofs.Used.{space_stays, spot_still}
 use Rattle.ka10_in_place.proofs.byte_units.deposit_word.Goals as goal
 
 pub returns-in-Some : goal.returns-in-Some

@@ -4,7 +4,7 @@ use Rattle.ka10_deeds.specs.Bytes.{first_part, steps_of}
 use Rattle.ka10_in_place.proofs.Placing.{finish_behind}
 use Rattle.ka10_in_place.proofs.ByteLemmas.{behind_word}
 use Rattle.ka10_in_place.proofs.Placing.{slow_in_place}
-use Rattle.ka10_in_place.proofs.Used.{space_stays, spot_still}
+use Rattle.ka10_spots.proofs.Used.{space_stays, spot_still}
 use Rattle.ka10_in_place.proofs.byte_units.first_part.Goals as goal
 
 pub returns-in-Some : goal.returns-in-Some

@@ -1,5 +1,5 @@
 use Rattle.std.proofs.Common.{Some, arith}
-use Rattle.ka10_in_place.proofs.Used.{leads_before, space_stays, uses_on}
+use Rattle.ka10_spots.proofs.Used.{leads_before, space_stays, uses_on}
 use Rattle.ka10_in_place.proofs.byte_units.follow.Goals as goal
 
 pub effective_address-requires-clause-space : goal.effective_address-requires-clause-space

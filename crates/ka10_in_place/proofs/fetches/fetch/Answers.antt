@@ -1,4 +1,4 @@
-use Rattle.ka10_in_place.proofs.Used.{uses_none}
+use Rattle.ka10_spots.proofs.Used.{uses_none}
 use Rattle.ka10_in_place.proofs.fetches.fetch.Goals as goal
 
 pub returns-clause-only : goal.returns-clause-only

@@ -1,6 +1,6 @@
 use Rattle.std.proofs.Common.{ℕ, Some, refl, sym, ◌∙◌, ap}
 use Rattle.machine_names.specs.declared.names.Kind.TheVariants.{Execute}
-use Rattle.ka10_in_place.proofs.Finishing.{ready_there}
+use Rattle.ka10_spots.proofs.Ready.{ready_there}
 use Rattle.ka10_in_place.proofs.fetches.find_page.Goals as goal
 
 pub returns-in-Some : goal.returns-in-Some

@@ -4,7 +4,7 @@ use Rattle.ka10_in_place.specs.Fetches.{FetchedUnit}
 use Rattle.ka10_in_place.proofs.Finishing.{for_all}
 use Rattle.ka10_in_place.proofs.Placing.{in_place_behind, in_place_more, used_in_place}
 use Rattle.ka10_in_place.proofs.Fetching.{there_still, unit_fetched}
-use Rattle.ka10_in_place.proofs.Used.{leads_before, space_stays, uses_on}
+use Rattle.ka10_spots.proofs.Used.{leads_before, space_stays, uses_on}
 use Rattle.ka10_in_place.proofs.in_place.quick.Goals as goal
 
 pub returns-in-Some-effective_address-clause-there : goal.returns-in-Some-effective_address-clause-there

@@ -4,7 +4,7 @@ use Rattle.ka10_in_place.specs.InPlace.{deed_in}
 use Rattle.ka10_in_place.specs.Targets.{Target, place_of}
 use Rattle.ka10_in_place.proofs.Placing.{deed_in_place, deed_to, finish_behind}
 use Rattle.ka10_in_place.proofs.Placing.{slow_in_place}
-use Rattle.ka10_in_place.proofs.Used.{space_stays, spot_still}
+use Rattle.ka10_spots.proofs.Used.{space_stays, spot_still}
 use Rattle.ka10_in_place.proofs.ways.replace.Goals as goal
 
 pub store-requires-clause-space : goal.store-requires-clause-space

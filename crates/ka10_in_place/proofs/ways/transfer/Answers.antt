@@ -1,7 +1,7 @@
 use Rattle.std.proofs.Common.{Some}
 use Rattle.ka10_in_place.proofs.Placing.{deed_in_place, deed_to}
 use Rattle.ka10_in_place.proofs.Placing.{in_place_behind, used_in_place}
-use Rattle.ka10_in_place.proofs.Used.{space_stays}
+use Rattle.ka10_spots.proofs.Used.{space_stays}
 use Rattle.ka10_in_place.proofs.ways.transfer.Goals as goal
 
 pub finish_at-requires-clause-to : goal.finish_at-requires-clause-to

@@ -3,7 +3,7 @@ use Rattle.plain_pages.specs.PlainPages.{NumberedPages}
 use Rattle.machine_names.specs.declared.names.Kind.TheVariants.{Write}
 use Rattle.plain_pages.specs.References.{slot_at}
 use Rattle.ka10_unit.proofs.Carried.{ready_here}
-use Rattle.ka10_in_place.proofs.Stored.{lost_none}
+use Rattle.ka10_spots.proofs.Stored.{lost_none}
 use Rattle.ka10_unit.proofs.carry.store.Goals as goal
 
 pub returns-in_default-touch : goal.returns-in_default-touch

@@ -7,7 +7,7 @@ use Rattle.ka10_unit.specs.Gathers.{framed}
 use Rattle.ka10_unit.specs.Taking.{CanPut, pages_so_far, so_far}
 use Rattle.plain_pages.specs.PlainPages.{NumberedPages}
 use Rattle.ka10_deeds.specs.Done.{channel_of}
-use Rattle.ka10_in_place.specs.Once.{After, once, went_through}
+use Rattle.ka10_spots.specs.Once.{After, once, went_through}
 use Rattle.ka10_unit.proofs.Carried.{grows_none, grows_within, own_stands}
 use Rattle.ka10_unit.proofs.slow.slow_unit.Goals as goal
 

@@ -1,4 +1,4 @@
-use Rattle.ka10_in_place.proofs.Stored.{lost_none}
+use Rattle.ka10_spots.proofs.Stored.{lost_none}
 use Rattle.ka10_unit.proofs.word_blocks.store_at.Goals as goal
 
 pub returns-else-at-ge-ACCUMULATORS-clause-loses : goal.returns-else-at-ge-ACCUMULATORS-clause-loses

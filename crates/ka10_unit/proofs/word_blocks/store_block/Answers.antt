@@ -8,7 +8,7 @@ use Rattle.ka10_unit.specs.Blocks.{AreOpenAt, IsStoredAt, address_behind, stored
 use Rattle.ka10_unit.specs.Gathers.{Framed, framed}
 use Rattle.ka10_unit.proofs.Carried.{serves_still}
 use Rattle.ka10_unit.proofs.TakenBlocks.{behind_low, first_address, one_behind, opens_stored, stored_on, stays_on}
-use Rattle.ka10_in_place.proofs.Stored.{lost_none, lost_on}
+use Rattle.ka10_spots.proofs.Stored.{lost_none, lost_on}
 use Rattle.ka10_unit.proofs.word_blocks.store_block.Goals as goal
 
 pub store_at-requires-clause-serves : goal.store_at-requires-clause-serves

@@ -1,6 +1,6 @@
 use Rattle.std.proofs.Common.{◌%◌, refl, ◌∙◌, subst}
 use Rattle.outside.specs.declared.TheConstants.{PAGE_WORDS}
-use Rattle.monitor_core.specs.Writing.{Writes, with_accumulator}
+use Rattle.monitor_calls.specs.Writing.{Writes, with_accumulator}
 use Rattle.monitor_core.proofs.Changing.{poked_tree, unchanged_tree}
 use Rattle.monitor_core.proofs.forks.poke.Goals as goal
 use Rattle.monitor_core.proofs.forks.poke.Goals.{in-Some, in_default}

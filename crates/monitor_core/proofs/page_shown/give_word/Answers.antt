@@ -4,7 +4,7 @@ use Rattle.page_contracts.specs.Pages.{spot_of}
 use Rattle.plain_model.specs.FileEvents.{words_shown}
 use Rattle.monitor_core.specs.Giving.{Takes}
 use Rattle.monitor_core.proofs.Given.{took_nothing}
-use Rattle.monitor_core.proofs.ShownWords.{no_word, shown_word, shown_zero, word_found}
+use Rattle.monitor_calls.proofs.ShownWords.{no_word, shown_word, shown_zero, word_found}
 use Rattle.monitor_core.proofs.page_shown.give_word.Goals as goal
 
 pub returns-then-value-eq0 : goal.returns-then-value-eq0

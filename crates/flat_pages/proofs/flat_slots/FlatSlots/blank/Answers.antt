@@ -1,8 +1,8 @@
 use Rattle.std.proofs.Common.{◌∙◌, sym, ap, cond}
 use Rattle.page_contracts.specs.declared.answers.Touch.TheVariants.{Zero, Full}
 use Rattle.page_contracts.specs.Pages.{framed}
-use Rattle.flat_pages.specs.SlotTouches.{scene_of}
-use Rattle.flat_pages.specs.TableSteps.{tables_of}
+use Rattle.flat_tables.specs.SlotTouches.{scene_of}
+use Rattle.flat_tables.specs.TableSteps.{tables_of}
 use Rattle.flat_pages.proofs.Rooming.{room_less}
 use Rattle.flat_pages.proofs.flat_slots.FlatSlots.blank.Goals as goal
 

@@ -1,10 +1,10 @@
 use Rattle.std.proofs.Common.{◌≡◌, ◌∙◌, sym, ap, subst, List, is_some}
 use Rattle.page_contracts.specs.Stores.{HomePlace, FitsHomes}
-use Rattle.flat_pages.specs.declared.held_map.HeldMap.{HeldMap}
-use Rattle.flat_pages.specs.HeldMaps.{index_of, living_of}
-use Rattle.flat_pages.specs.SlotTables.{Tables, AreTables, plain_of}
-use Rattle.flat_pages.specs.TableSteps.{tables_of}
-use Rattle.flat_pages.proofs.Opening.{opened, opened_plain, opened_tables, nobody_lives, none_of, first_serial, low_serial}
+use Rattle.flat_tables.specs.declared.held_map.HeldMap.{HeldMap}
+use Rattle.flat_tables.specs.HeldMaps.{index_of, living_of}
+use Rattle.flat_tables.specs.SlotTables.{Tables, AreTables, plain_of}
+use Rattle.flat_tables.specs.TableSteps.{tables_of}
+use Rattle.flat_tables.proofs.Opening.{opened, opened_plain, opened_tables, nobody_lives, none_of, first_serial, low_serial}
 use Rattle.flat_pages.proofs.Telling.{tables_told}
 use Rattle.flat_pages.proofs.flat_slots.FlatSlots.boot.Goals as goal
 

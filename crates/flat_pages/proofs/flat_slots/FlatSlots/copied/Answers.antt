@@ -1,9 +1,9 @@
 use Rattle.std.proofs.Common.{◌∙◌, false, sym, ap, cond}
 use Rattle.page_contracts.specs.declared.answers.Touch.TheVariants.{Copy, Full}
 use Rattle.page_contracts.specs.Pages.{framed, absent_or}
-use Rattle.flat_pages.specs.SlotTouches.{scene_of, touch_copy}
+use Rattle.flat_tables.specs.SlotTouches.{scene_of, touch_copy}
 use Rattle.page_contracts.specs.Stores.{away_at}
-use Rattle.flat_pages.specs.TableSteps.{tables_of}
+use Rattle.flat_tables.specs.TableSteps.{tables_of}
 use Rattle.flat_pages.proofs.flat_slots.FlatSlots.copied.Goals as goal
 
 pub returns-then-not-has_room : goal.returns-then-not-has_room

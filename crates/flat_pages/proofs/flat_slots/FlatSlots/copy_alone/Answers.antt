@@ -1,11 +1,11 @@
 use Rattle.std.proofs.Common.{◌≡◌, ◌<◌, ◌∙◌, sym, ap, subst}
 use Rattle.page_contracts.specs.Stores.{place}
-use Rattle.flat_pages.specs.HeldMaps.{fork_at}
-use Rattle.flat_pages.specs.SlotTables.{AreTables, share_of}
-use Rattle.flat_pages.specs.SlotTouches.{is_alone}
-use Rattle.flat_pages.specs.TableSteps.{tables_of}
-use Rattle.flat_pages.proofs.Making.{some_lives, alone_share, here_taken, home_under}
-use Rattle.flat_pages.proofs.Taking.{renamed_tables}
+use Rattle.flat_tables.specs.HeldMaps.{fork_at}
+use Rattle.flat_tables.specs.SlotTables.{AreTables, share_of}
+use Rattle.flat_tables.specs.SlotTouches.{is_alone}
+use Rattle.flat_tables.specs.TableSteps.{tables_of}
+use Rattle.flat_tables.proofs.Making.{some_lives, alone_share, here_taken, home_under}
+use Rattle.flat_tables.proofs.Taking.{renamed_tables}
 use Rattle.flat_pages.proofs.Telling.{tables_told}
 use Rattle.flat_pages.proofs.flat_slots.FlatSlots.copy_alone.Goals as goal
 

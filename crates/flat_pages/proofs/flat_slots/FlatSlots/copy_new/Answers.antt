@@ -1,9 +1,9 @@
 use Rattle.std.proofs.Common.{◌∙◌, sym, ap}
 use Rattle.page_contracts.specs.Stores.{place}
-use Rattle.flat_pages.specs.HeldMaps.{fork_at, held_entry}
-use Rattle.flat_pages.specs.SlotTouches.{is_alone}
-use Rattle.flat_pages.specs.TableSteps.{tables_of}
-use Rattle.flat_pages.proofs.Making.{fits_one, some_lives, stays_shared, take_agrees, held_is, here_taken, takes_home}
+use Rattle.flat_tables.specs.HeldMaps.{fork_at, held_entry}
+use Rattle.flat_tables.specs.SlotTouches.{is_alone}
+use Rattle.flat_tables.specs.TableSteps.{tables_of}
+use Rattle.flat_tables.proofs.Making.{fits_one, some_lives, stays_shared, take_agrees, held_is, here_taken, takes_home}
 use Rattle.flat_pages.proofs.Telling.{tables_told}
 use Rattle.flat_pages.proofs.flat_slots.FlatSlots.copy_new.Goals as goal
 

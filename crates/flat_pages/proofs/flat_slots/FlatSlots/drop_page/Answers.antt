@@ -1,8 +1,8 @@
 use Rattle.std.proofs.Common.{refl, sym, ◌∙◌, ap}
-use Rattle.flat_pages.specs.SlotTouches.{is_alone}
-use Rattle.flat_pages.specs.TableSteps.{tables_of}
-use Rattle.flat_pages.specs.declared.held_entry.HeldEntry.TheVariants.{Page}
-use Rattle.flat_pages.proofs.Making.{alone_share}
+use Rattle.flat_tables.specs.SlotTouches.{is_alone}
+use Rattle.flat_tables.specs.TableSteps.{tables_of}
+use Rattle.flat_tables.specs.declared.held_entry.HeldEntry.TheVariants.{Page}
+use Rattle.flat_tables.proofs.Making.{alone_share}
 use Rattle.flat_pages.proofs.EntrySetting.{freed_step}
 use Rattle.flat_pages.proofs.flat_slots.FlatSlots.drop_page.Goals as goal
 

@@ -1,8 +1,8 @@
 use Rattle.std.proofs.Common.{◌≡◌, true, false, None, Some, Option, sym, refl}
 use Rattle.std.specs.Prelude.{IsSome}
 use Rattle.machine_names.specs.declared.names.ForkName.{ForkName}
-use Rattle.flat_pages.specs.TableSteps.{tables_of}
-use Rattle.flat_pages.specs.HeldMaps.{fork_at}
+use Rattle.flat_tables.specs.TableSteps.{tables_of}
+use Rattle.flat_tables.specs.HeldMaps.{fork_at}
 use Rattle.flat_pages.proofs.Meeting.{ready_taken}
 use Rattle.flat_pages.proofs.flat_slots.FlatSlots.found.Goals as goal
 

@@ -1,5 +1,5 @@
 use Rattle.std.proofs.Common.{ap, ◌∙◌}
-use Rattle.flat_pages.specs.TableSteps.{tables_of}
+use Rattle.flat_tables.specs.TableSteps.{tables_of}
 use Rattle.flat_pages.proofs.FileSetting.{file_freed_step}
 use Rattle.flat_pages.proofs.flat_slots.FlatSlots.free_filed.Goals as goal
 

@@ -1,9 +1,9 @@
 use Rattle.std.proofs.Common.{refl}
-use Rattle.flat_pages.specs.HeldMaps.{fork_at}
-use Rattle.flat_pages.specs.TableSteps.{tables_of}
+use Rattle.flat_tables.specs.HeldMaps.{fork_at}
+use Rattle.flat_tables.specs.TableSteps.{tables_of}
 use Rattle.flat_pages.proofs.FileCounts.{share_few}
 use Rattle.flat_pages.proofs.FileSetting.{entry_joined_step, join_below}
-use Rattle.flat_pages.proofs.Making.{some_lives}
+use Rattle.flat_tables.proofs.Making.{some_lives}
 use Rattle.flat_pages.proofs.flat_slots.FlatSlots.join_entry.Goals as goal
 
 pub join_entry-requires-clause-share : goal.join_entry-requires-clause-share

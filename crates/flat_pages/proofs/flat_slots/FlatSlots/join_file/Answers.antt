@@ -1,5 +1,5 @@
 use Rattle.std.proofs.Common.{refl}
-use Rattle.flat_pages.specs.TableSteps.{tables_of}
+use Rattle.flat_tables.specs.TableSteps.{tables_of}
 use Rattle.flat_pages.proofs.FileCounts.{share_few}
 use Rattle.flat_pages.proofs.FileSetting.{file_joined_step, join_below}
 use Rattle.flat_pages.proofs.flat_slots.FlatSlots.join_file.Goals as goal

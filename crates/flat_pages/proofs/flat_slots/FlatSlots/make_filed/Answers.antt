@@ -1,10 +1,10 @@
 use Rattle.std.proofs.Common.{ap, refl, ◌∙◌, subst, sym, arith}
 use Rattle.machine_names.specs.PageWords.{zero_words}
 use Rattle.page_contracts.specs.Stores.{here}
-use Rattle.flat_pages.specs.SlotTables.{AreTables}
-use Rattle.flat_pages.specs.TableSteps.{tables_of}
-use Rattle.flat_pages.proofs.Making.{fits_one}
-use Rattle.flat_pages.proofs.Taking.{filed_tables}
+use Rattle.flat_tables.specs.SlotTables.{AreTables}
+use Rattle.flat_tables.specs.TableSteps.{tables_of}
+use Rattle.flat_tables.proofs.Making.{fits_one}
+use Rattle.flat_tables.proofs.Taking.{filed_tables}
 use Rattle.flat_pages.proofs.Telling.{tables_told}
 use Rattle.flat_pages.proofs.flat_slots.FlatSlots.make_filed.Goals as goal
 

@@ -2,10 +2,10 @@ use Rattle.std.proofs.Common.{refl}
 use Rattle.plain_pages.specs.Maps.{full_access}
 use Rattle.machine_names.specs.PageWords.{zero_words}
 use Rattle.page_contracts.specs.Stores.{here}
-use Rattle.flat_pages.specs.declared.held_entry.HeldEntry.TheVariants.{Empty}
-use Rattle.flat_pages.specs.HeldMaps.{fork_at}
-use Rattle.flat_pages.specs.TableSteps.{tables_of}
-use Rattle.flat_pages.proofs.Making.{fits_one, some_lives, stays_shared, take_agrees, takes_home}
+use Rattle.flat_tables.specs.declared.held_entry.HeldEntry.TheVariants.{Empty}
+use Rattle.flat_tables.specs.HeldMaps.{fork_at}
+use Rattle.flat_tables.specs.TableSteps.{tables_of}
+use Rattle.flat_tables.proofs.Making.{fits_one, some_lives, stays_shared, take_agrees, takes_home}
 use Rattle.flat_pages.proofs.Telling.{tables_told}
 use Rattle.flat_pages.proofs.flat_slots.FlatSlots.make_zero.Goals as goal
 

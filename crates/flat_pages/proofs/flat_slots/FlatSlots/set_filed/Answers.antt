@@ -1,13 +1,13 @@
 use Rattle.std.proofs.Common.{ap, ◌∙◌, is_some, subst, sym}
 use Rattle.std.specs.Prelude.{IsSome}
 use Rattle.std.specs.FinMap as fin
-use Rattle.flat_pages.specs.declared.held_entry.HeldEntry.TheVariants.{Empty}
-use Rattle.flat_pages.specs.HeldMaps.{fork_at, held_entry}
-use Rattle.flat_pages.specs.TableSteps.{tables_of}
+use Rattle.flat_tables.specs.declared.held_entry.HeldEntry.TheVariants.{Empty}
+use Rattle.flat_tables.specs.HeldMaps.{fork_at, held_entry}
+use Rattle.flat_tables.specs.TableSteps.{tables_of}
 use Rattle.flat_pages.proofs.Agreement.{filed_named}
 use Rattle.flat_pages.proofs.FileEnds.{sets_on}
-use Rattle.flat_pages.proofs.HeldEntries.{entry_same, fork_set}
-use Rattle.flat_pages.proofs.Making.{held_is}
+use Rattle.flat_tables.proofs.HeldEntries.{entry_same, fork_set}
+use Rattle.flat_tables.proofs.Making.{held_is}
 use Rattle.flat_pages.proofs.flat_slots.FlatSlots.set_filed.Goals as goal
 
 pub join_entry-requires-clause-there : goal.join_entry-requires-clause-there

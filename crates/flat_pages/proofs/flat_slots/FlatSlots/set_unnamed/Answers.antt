@@ -1,8 +1,8 @@
 use Rattle.std.proofs.Common.{◌≡◌, false, Some, refl, sym, ◌∙◌, ap}
-use Rattle.flat_pages.specs.SlotTouches.{is_alone}
-use Rattle.flat_pages.specs.TableSteps.{tables_of}
-use Rattle.flat_pages.specs.declared.held_entry.HeldEntry.TheVariants.{Page}
-use Rattle.flat_pages.proofs.Making.{alone_share, stays_shared}
+use Rattle.flat_tables.specs.SlotTouches.{is_alone}
+use Rattle.flat_tables.specs.TableSteps.{tables_of}
+use Rattle.flat_tables.specs.declared.held_entry.HeldEntry.TheVariants.{Page}
+use Rattle.flat_tables.proofs.Making.{alone_share, stays_shared}
 use Rattle.flat_pages.proofs.EntrySetting.{left_step, freed_step, names_none}
 use Rattle.flat_pages.proofs.flat_slots.FlatSlots.set_unnamed.Goals.{in-Page+else-is_alone, in_default}
 use Rattle.flat_pages.proofs.flat_slots.FlatSlots.set_unnamed.Goals as goal

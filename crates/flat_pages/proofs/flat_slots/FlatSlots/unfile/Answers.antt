@@ -1,5 +1,5 @@
 use Rattle.std.proofs.Common.{ap, ◌∙◌, sym, refl, is_some}
-use Rattle.flat_pages.specs.TableSteps.{tables_of}
+use Rattle.flat_tables.specs.TableSteps.{tables_of}
 use Rattle.flat_pages.proofs.Agreement.{filed_named}
 use Rattle.flat_pages.proofs.FileSetting.{file_none_step, file_left_step, filed_share, join_below}
 use Rattle.flat_pages.proofs.flat_slots.FlatSlots.unfile.Goals as goal

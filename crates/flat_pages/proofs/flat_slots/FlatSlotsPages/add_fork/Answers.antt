@@ -1,8 +1,8 @@
 use Rattle.std.proofs.Common.{◌∙◌, sym, ap, refl}
 use Rattle.plain_pages.specs.NewMaps.{new_map}
-use Rattle.flat_pages.specs.HeldMaps.{map_at, followers}
-use Rattle.flat_pages.specs.TableSteps.{tables_of}
-use Rattle.flat_pages.proofs.Beginning.{agrees_begun, old_new, old_empty, followers_new, followers_follow}
+use Rattle.flat_tables.specs.HeldMaps.{map_at, followers}
+use Rattle.flat_tables.specs.TableSteps.{tables_of}
+use Rattle.flat_tables.proofs.Beginning.{agrees_begun, old_new, old_empty, followers_new, followers_follow}
 use Rattle.flat_pages.proofs.ForkChanges.{fork_added}
 use Rattle.flat_pages.proofs.Telling.{tables_told}
 use Rattle.flat_pages.proofs.flat_slots.FlatSlotsPages.add_fork.Goals as goal

@@ -1,8 +1,8 @@
 use Rattle.std.proofs.Common.{◌≡◌, sym, subst, ap}
 use Rattle.std.proofs.Props.{props}
 use Rattle.flat_pages.specs.SlotMeaning.{AreTold}
-use Rattle.flat_pages.specs.SlotTables.{AreTables}
-use Rattle.flat_pages.specs.TableSteps.{tables_of}
+use Rattle.flat_tables.specs.SlotTables.{AreTables}
+use Rattle.flat_tables.specs.TableSteps.{tables_of}
 use Rattle.flat_pages.proofs.HandedOn.{completes_within}
 use Rattle.flat_pages.proofs.Putting.{moved_tables}
 use Rattle.flat_pages.proofs.Telling.{tables_told}

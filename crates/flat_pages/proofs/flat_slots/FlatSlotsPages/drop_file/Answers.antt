@@ -1,7 +1,7 @@
 use Rattle.std.proofs.Common.{ap, refl, is_some}
-use Rattle.flat_pages.specs.HeldMaps.{index_of, living_of}
-use Rattle.flat_pages.specs.Serials.{serial_of}
-use Rattle.flat_pages.specs.TableSteps.{tables_of}
+use Rattle.flat_tables.specs.HeldMaps.{index_of, living_of}
+use Rattle.flat_tables.specs.Serials.{serial_of}
+use Rattle.flat_tables.specs.TableSteps.{tables_of}
 use Rattle.flat_pages.proofs.FileEnds.{emptied_all, told_dropped}
 use Rattle.flat_pages.proofs.MapHomes.{drops_file}
 use Rattle.flat_pages.proofs.flat_slots.FlatSlotsPages.drop_file.Goals as goal

@@ -1,9 +1,9 @@
 use Rattle.std.proofs.Common.{◌∙◌, sym, ap, subst}
-use Rattle.flat_pages.specs.TableSteps.{tables_of}
+use Rattle.flat_tables.specs.TableSteps.{tables_of}
 use Rattle.plain_pages.specs.declared.map.MapEntry.{MapEntry}
 use Rattle.page_contracts.specs.declared.answers.Seen.TheVariants.{Is}
 use Rattle.page_contracts.specs.Pages.{FollowsPage}
-use Rattle.flat_pages.proofs.ForkMaps.{index_fork}
+use Rattle.flat_tables.proofs.ForkMaps.{index_fork}
 use Rattle.flat_pages.proofs.Seeing.{there_is, seen_is, follows_page, seen_none}
 use Rattle.flat_pages.proofs.flat_slots.FlatSlotsPages.entry.Goals as goal
 

@@ -1,9 +1,9 @@
 use Rattle.std.proofs.Common.{List, sym, ap, subst, refl}
 use Rattle.page_contracts.specs.Stores.{HomePlace, FitsHomes}
-use Rattle.flat_pages.specs.SlotTables.{plain_of}
+use Rattle.flat_tables.specs.SlotTables.{plain_of}
 use Rattle.page_contracts.specs.Stores.{away_at}
-use Rattle.flat_pages.specs.TableSteps.{tables_of}
-use Rattle.flat_pages.specs.SlotTouches.{scene_with, touch_with}
+use Rattle.flat_tables.specs.TableSteps.{tables_of}
+use Rattle.flat_tables.specs.SlotTouches.{scene_with, touch_with}
 use Rattle.flat_pages.specs.SlotMeaning.{place_along}
 use Rattle.flat_pages.proofs.Putting.{replaced}
 use Rattle.flat_pages.proofs.flat_slots.FlatSlotsPages.evict.Goals as goal

@@ -1,12 +1,12 @@
 use Rattle.std.proofs.Common.{◌≡◌, ◌∙◌, Option, sym, ap, subst}
 use Rattle.std.specs.Prelude.{IsSome}
 use Rattle.std.specs.Option.{option_and_then}
-use Rattle.flat_pages.specs.TableSteps.{tables_of}
+use Rattle.flat_tables.specs.TableSteps.{tables_of}
 use Rattle.flat_pages.proofs.Settling.{sized_of}
 use Rattle.page_contracts.specs.declared.answers.Found.{Found}
-use Rattle.flat_pages.specs.HeldMaps.{fork_at}
-use Rattle.flat_pages.specs.Walks.{walk, use_of, ready_home}
-use Rattle.flat_pages.proofs.WalkSteps.{some_fork}
+use Rattle.flat_tables.specs.HeldMaps.{fork_at}
+use Rattle.flat_tables.specs.Walks.{walk, use_of, ready_home}
+use Rattle.flat_tables.proofs.WalkSteps.{some_fork}
 use Rattle.flat_pages.proofs.Meeting.{place_told, space_fork, find_from, find_to, lives_at}
 use Rattle.flat_pages.proofs.flat_slots.FlatSlotsPages.find.Goals as goal
 

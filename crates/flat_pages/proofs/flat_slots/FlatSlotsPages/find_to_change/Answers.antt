@@ -5,10 +5,10 @@ use Rattle.machine_names.specs.declared.names.Kind.TheVariants.{Read, Write}
 use Rattle.machine_names.specs.declared.names.Tty.{Tty}
 use Rattle.page_contracts.specs.declared.answers.Found.{Found}
 use Rattle.machine_names.specs.Bounds.{IsOwner}
-use Rattle.flat_pages.specs.TableSteps.{tables_of}
+use Rattle.flat_tables.specs.TableSteps.{tables_of}
 use Rattle.flat_pages.proofs.Settling.{sized_of}
-use Rattle.flat_pages.specs.HeldMaps.{fork_at}
-use Rattle.flat_pages.proofs.WalkSteps.{some_fork}
+use Rattle.flat_tables.specs.HeldMaps.{fork_at}
+use Rattle.flat_tables.proofs.WalkSteps.{some_fork}
 use Rattle.flat_pages.proofs.Meeting.{place_told, space_fork, change_touched, touched_change, lives_at}
 use Rattle.flat_pages.proofs.flat_slots.FlatSlotsPages.find_to_change.Goals as goal
 

@@ -1,8 +1,8 @@
 use Rattle.std.proofs.Common.{ap, ◌∙◌, Some, sym}
 use Rattle.std.specs.Option.{option_map}
 use Rattle.machine_names.specs.Orders.{file_page}
-use Rattle.flat_pages.specs.HeldMaps.{name_of}
-use Rattle.flat_pages.proofs.FiledHomes.{get_filed}
+use Rattle.flat_tables.specs.HeldMaps.{name_of}
+use Rattle.flat_tables.proofs.FiledHomes.{get_filed}
 use Rattle.flat_pages.proofs.flat_slots.FlatSlotsPages.page_of.Goals as goal
 
 pub returns-in-Some : goal.returns-in-Some

@@ -1,7 +1,7 @@
 use Rattle.std.proofs.Common.{◌≡◌, ◌∙◌, Some, true, false, sym, ap}
 use Rattle.page_contracts.specs.Stores.{place, is_here}
 use Rattle.page_contracts.specs.declared.answers.Peeked.TheVariants.{Is}
-use Rattle.flat_pages.specs.TableSteps.{tables_of}
+use Rattle.flat_tables.specs.TableSteps.{tables_of}
 use Rattle.flat_pages.proofs.Settling.{sized_of}
 use Rattle.flat_pages.proofs.Meeting.{reached, unreached, word_here, word_away, reached_taken, peek_here, peek_away, peek_none}
 use Rattle.flat_pages.proofs.Using.{of_file_page}

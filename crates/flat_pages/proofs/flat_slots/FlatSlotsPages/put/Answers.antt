@@ -1,17 +1,17 @@
 use Rattle.std.proofs.Common.{◌∙◌, List, sym, ap, subst, refl}
 use Rattle.page_contracts.specs.Stores.{HomePlace, place, with_word_in, FitsHomes}
 use Rattle.machine_names.specs.declared.names.Kind.TheVariants.{Write}
-use Rattle.flat_pages.specs.SlotTables.{plain_of, AreTables}
+use Rattle.flat_tables.specs.SlotTables.{plain_of, AreTables}
 use Rattle.page_contracts.specs.Stores.{away_at}
-use Rattle.flat_pages.specs.TableSteps.{tables_of}
+use Rattle.flat_tables.specs.TableSteps.{tables_of}
 use Rattle.flat_pages.proofs.Settling.{sized_of}
-use Rattle.flat_pages.specs.SlotTouches.{scene_with, touch_with}
+use Rattle.flat_tables.specs.SlotTouches.{scene_with, touch_with}
 use Rattle.flat_pages.specs.SlotMeaning.{place_along}
 use Rattle.flat_pages.proofs.Settling.{fits_set}
 use Rattle.flat_pages.proofs.Telling.{tables_told}
 use Rattle.flat_pages.proofs.Meeting.{reached, reached_taken, ready_words}
 use Rattle.flat_pages.proofs.Putting.{replaced, put_away, put_tables, stored_at}
-use Rattle.flat_pages.specs.SlotTables.{AreSized}
+use Rattle.flat_tables.specs.SlotTables.{AreSized}
 use Rattle.page_contracts.proofs.Losing.{loses_used}
 use Rattle.flat_pages.proofs.Using.{place_used}
 use Rattle.flat_pages.proofs.flat_slots.FlatSlotsPages.put.Goals as goal

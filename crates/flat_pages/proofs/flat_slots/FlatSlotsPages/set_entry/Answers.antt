@@ -1,17 +1,17 @@
-use Rattle.std.proofs.Common.{Option, None, Some, refl, sym, ◌∙◌, ap, subst}
+use Rattle.std.proofs.Common.{Option, None, Some, sym, ◌∙◌, ap, subst}
 use Rattle.std.specs.Prelude.{IsSome}
 use Rattle.std.specs.Option.{option_map}
 use Rattle.machine_names.specs.declared.names.PageName.{PageName}
 use Rattle.machine_names.specs.Orders.{file_page}
 use Rattle.plain_pages.specs.NewEntries.{IsNewEntry}
-use Rattle.flat_pages.specs.HeldMaps.{name_of}
+use Rattle.flat_tables.specs.HeldMaps.{name_of}
 use Rattle.flat_pages.specs.SlotMeaning.{filed_in}
-use Rattle.flat_pages.specs.declared.held_entry.EntryAt.{EntryAt}
-use Rattle.flat_pages.specs.declared.held_entry.HeldEntry.{HeldEntry}
-use Rattle.flat_pages.specs.SlotSteps.{SetsEntry}
-use Rattle.flat_pages.specs.TableSteps.{tables_of}
+use Rattle.flat_tables.specs.declared.held_entry.EntryAt.{EntryAt}
+use Rattle.flat_tables.specs.declared.held_entry.HeldEntry.{HeldEntry}
+use Rattle.flat_tables.specs.SlotSteps.{SetsEntry}
+use Rattle.flat_tables.specs.TableSteps.{tables_of}
 use Rattle.flat_pages.proofs.EntryChanges.{empty_set, filed_set, following_set, narrowed_set}
-use Rattle.flat_pages.proofs.FiledHomes.{get_filed}
+use Rattle.flat_tables.proofs.FiledHomes.{get_filed}
 use Rattle.flat_pages.proofs.SlotSetting.{fork_some, narrowed_page}
 use Rattle.flat_pages.proofs.flat_slots.FlatSlotsPages.set_entry.Goals as goal
 

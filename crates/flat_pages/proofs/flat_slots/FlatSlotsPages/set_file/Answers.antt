@@ -8,10 +8,10 @@ use Rattle.machine_names.specs.declared.names.Slot.{Slot}
 use Rattle.page_contracts.specs.declared.answers.Touch.TheVariants.{Ready}
 use Rattle.page_contracts.specs.Pages.{IsPlace}
 use Rattle.plain_pages.specs.FilePages.{filed_by, with_file}
-use Rattle.flat_pages.specs.HeldMaps.{index_of}
-use Rattle.flat_pages.specs.SlotTables.{plain_of}
-use Rattle.flat_pages.specs.SlotTouches.{touch_of_place}
-use Rattle.flat_pages.specs.TableSteps.{tables_of}
+use Rattle.flat_tables.specs.HeldMaps.{index_of}
+use Rattle.flat_tables.specs.SlotTables.{plain_of}
+use Rattle.flat_tables.specs.SlotTouches.{touch_of_place}
+use Rattle.flat_tables.specs.TableSteps.{tables_of}
 use Rattle.flat_pages.proofs.FilePlaces.{given_slot, page_set, ready_entry, ready_some}
 use Rattle.flat_pages.proofs.Meeting.{reached}
 use Rattle.flat_pages.proofs.flat_slots.FlatSlotsPages.set_file.Goals as goal

@@ -3,10 +3,10 @@ use Rattle.machine_names.specs.Orders.{file_page}
 use Rattle.machine_names.specs.declared.names.Access.{Access}
 use Rattle.page_homes.specs.declared.homes.Home.{Home}
 use Rattle.page_contracts.specs.Stores.{HomePlace}
-use Rattle.flat_pages.specs.declared.held_entry.HeldEntry.TheVariants.{Page}
-use Rattle.flat_pages.specs.SlotTables.{AreTables, share_of}
-use Rattle.flat_pages.specs.SlotTouches.{is_alone}
-use Rattle.flat_pages.specs.TableSteps.{tables_of}
+use Rattle.flat_tables.specs.declared.held_entry.HeldEntry.TheVariants.{Page}
+use Rattle.flat_tables.specs.SlotTables.{AreTables, share_of}
+use Rattle.flat_tables.specs.SlotTouches.{is_alone}
+use Rattle.flat_tables.specs.TableSteps.{tables_of}
 use Rattle.flat_pages.proofs.Agreement.{filed_named}
 use Rattle.flat_pages.proofs.FileSettles.{file_bounds, file_settled, near, ready_at, settled_at, zero_frame, zero_room}
 use Rattle.flat_pages.proofs.Meeting.{copy_held}

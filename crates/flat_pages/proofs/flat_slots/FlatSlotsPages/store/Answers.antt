@@ -1,13 +1,13 @@
 use Rattle.std.proofs.Common.{◌∙◌, List, sym, ap, subst, refl}
 use Rattle.machine_names.specs.declared.names.Place.TheVariants.{Fork}
 use Rattle.page_contracts.specs.Stores.{HomePlace, place, with_word_in, FitsHomes}
-use Rattle.flat_pages.specs.SlotTables.{plain_of, AreTables}
+use Rattle.flat_tables.specs.SlotTables.{plain_of, AreTables}
 use Rattle.page_contracts.specs.Stores.{away_at}
-use Rattle.flat_pages.specs.TableSteps.{tables_of}
+use Rattle.flat_tables.specs.TableSteps.{tables_of}
 use Rattle.flat_pages.proofs.Settling.{sized_of}
 use Rattle.std.proofs.Common.{◌/◌, ◌%◌}
-use Rattle.flat_pages.specs.SlotTables.{AreSized}
-use Rattle.flat_pages.specs.SlotTouches.{scene_with, touch_with}
+use Rattle.flat_tables.specs.SlotTables.{AreSized}
+use Rattle.flat_tables.specs.SlotTouches.{scene_with, touch_with}
 use Rattle.flat_pages.specs.SlotMeaning.{place_along}
 use Rattle.flat_pages.proofs.Settling.{fits_set}
 use Rattle.flat_pages.proofs.Telling.{tables_told}

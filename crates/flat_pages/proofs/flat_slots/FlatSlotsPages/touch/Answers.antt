@@ -1,15 +1,15 @@
 use Rattle.std.proofs.Common.{refl, ◌∙◌, sym, ap, cond, is_some, subst}
 use Rattle.page_contracts.specs.declared.answers.Touch.TheVariants.{Denied}
-use Rattle.flat_pages.specs.HeldMaps.{index_of}
+use Rattle.flat_tables.specs.HeldMaps.{index_of}
 use Rattle.machine_names.specs.declared.names.Place.{Place}
 use Rattle.machine_names.specs.Orders.{file_page}
 use Rattle.page_contracts.specs.Pages.{touch_of, spot_of, is_in_core}
-use Rattle.flat_pages.specs.SlotTables.{plain_of}
-use Rattle.flat_pages.specs.SlotTouches.{scene_of, touch_filed, touch_of_place, touch_walked, touch_made, copy_of}
+use Rattle.flat_tables.specs.SlotTables.{plain_of}
+use Rattle.flat_tables.specs.SlotTouches.{scene_of, touch_filed, touch_of_place, touch_walked, touch_made, copy_of}
 use Rattle.flat_pages.proofs.Agreement.{filed_named}
 use Rattle.flat_pages.proofs.FileTouches.{file_told}
 use Rattle.page_contracts.specs.Stores.{away_at}
-use Rattle.flat_pages.specs.TableSteps.{tables_of}
+use Rattle.flat_tables.specs.TableSteps.{tables_of}
 use Rattle.flat_pages.proofs.Meeting.{found_walk, home_taken_is, copy_held, place_lives, at_told}
 use Rattle.flat_pages.proofs.Settling.{sized_of}
 use Rattle.page_contracts.specs.Pages.{TouchNeeds}

@@ -1,5 +1,5 @@
 use Rattle.std.proofs.Common.{ap}
-use Rattle.flat_pages.specs.TableSteps.{tables_of}
+use Rattle.flat_tables.specs.TableSteps.{tables_of}
 use Rattle.flat_pages.proofs.FoundPages.{has_page, only_used}
 use Rattle.flat_pages.proofs.HandedOn.{used_within}
 use Rattle.flat_pages.proofs.flat_slots.FlatSlotsPages.used.Goals as goal

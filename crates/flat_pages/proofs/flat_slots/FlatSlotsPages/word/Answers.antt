@@ -2,7 +2,7 @@ use Rattle.std.proofs.Common.{◌≡◌, ◌∙◌, ℕ, List, sym, ap, inl, inr
 use Rattle.std.specs.Option.{unwrap_or}
 use Rattle.page_contracts.specs.Stores.{place, here, word_in}
 use Rattle.machine_names.specs.declared.names.Kind.TheVariants.{Read, Execute}
-use Rattle.flat_pages.specs.TableSteps.{tables_of}
+use Rattle.flat_tables.specs.TableSteps.{tables_of}
 use Rattle.flat_pages.proofs.Settling.{sized_of}
 use Rattle.flat_pages.proofs.Meeting.{reached, reached_taken, reached_word, ready_words}
 use Rattle.flat_pages.proofs.flat_slots.FlatSlotsPages.word.Goals as goal

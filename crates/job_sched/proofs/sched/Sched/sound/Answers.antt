@@ -1,9 +1,10 @@
-use Rattle.std.proofs.Common.{ap, subst, arith}
-use Rattle.job_sched.specs.Schedules.{Schedule}
+use Rattle.std.proofs.Common.{◌≡◌, true, ap, sym, subst, arith}
+use Rattle.frame_order.specs.FrameOrder.{IsOnce, stands_in}
+use Rattle.job_sched.specs.Schedules.{Schedule, seats_of}
 use Rattle.job_sched.specs.Ties.{AreApart}
 use Rattle.job_sched.proofs.Apart.{apart_kept}
 use Rattle.job_sched.proofs.Leaving.{few_stand}
-use Rattle.job_sched.proofs.Seats.{size_is}
+use Rattle.job_sched.proofs.Seats.{seats_below, seats_once, size_is}
 use Rattle.job_sched.proofs.sched.Sched.sound.Goals as goal
 
 pub returns : goal.returns
@@ -20,5 +21,10 @@ returns c =
       apart = subst AreApart c.self.view_is (apart_kept i.rows i.spots.items i.places.items kept.names i.spare.order i.used);
       few = omega arith;
       some = omega arith;
+      small = let low = kept.few in omega arith;
+      seats = subst (λ (s : Schedule). IsOnce (seats_of s)) c.self.view_is (seats_once i.rows i.spare i.spots.items i.places.items i.seated.items i.used kept);
+      numbered = λ k here.
+          let below = seats_below i.rows i.spare i.spots.items i.places.items i.seated.items i.used kept k (subst (λ (s : Schedule). stands_in k (seats_of s) ≡ true) (sym c.self.view_is) here) in
+          omega arith;
       timed = omega arith;
     }

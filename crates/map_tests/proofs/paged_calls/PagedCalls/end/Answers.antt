@@ -1,13 +1,5 @@
-use Rattle.std.proofs.Common.{◌≡◌, ◌+◌, ap, subst}
-use Rattle.machine_names.specs.declared.names.ForkName.{ForkName}
-use Rattle.machine_names.specs.declared.names.Tty.{Tty}
-use Rattle.paged_tables.specs.PagedMeaning.{forks_in}
-use Rattle.paged_tables.specs.PagedTables.{beside_of}
 use Rattle.map_tests.proofs.Counting.{counted_fewer}
 use Rattle.map_tests.proofs.paged_calls.PagedCalls.end.Goals as goal
 
 pub invariant_of-self : goal.invariant_of-self
-invariant_of-self c =
-    let old = c.args.self.now.pages in
-    let new = c.drop_fork.new.self in
-    record { counted = counted_fewer (subst (λ (t : Tty). forks_in (beside_of new.pages.tables) t + 1 ≡ forks_in (beside_of old.pages.tables) t) (ap (λ (f : ForkName). f.tty) c.first-fork.ensures) c.drop_fork.ensures.forks) c.drop_fork.ensures.serials c.args.self.now.counted }
+invariant_of-self g c = record { counted = counted_fewer (rw c.first-fork.ensures at c.drop_fork.ensures.forks) c.drop_fork.ensures.serials c.args.self.now.counted }

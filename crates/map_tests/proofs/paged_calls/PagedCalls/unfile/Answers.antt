@@ -2,4 +2,4 @@ use Rattle.map_tests.proofs.Counting.{counted_same}
 use Rattle.map_tests.proofs.paged_calls.PagedCalls.unfile.Goals as goal
 
 pub invariant_of-self : goal.invariant_of-self
-invariant_of-self c = record { counted = counted_same c.set_file.ensures.forks c.set_file.ensures.serials c.args.self.now.counted }
+invariant_of-self g c = record { counted = counted_same c.set_file.ensures.forks c.set_file.ensures.serials c.args.self.now.counted }

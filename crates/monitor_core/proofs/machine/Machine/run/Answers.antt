@@ -17,7 +17,7 @@ loop-left-init g c = record {
   live = refl;
   most = refl;
   given = subst (GivenTurns g.T.Taker.stands c.args.self.now c.args.self.now c.args.out.now c.args.out.now) (let none : 0 ≡ c.args.n - c.args.n = omega arith in none)
-      (no_turns g.T.Taker.fault_count g.T.Taker.onward g.T.Taker.stands g.T.Taker.cut c.args.self.now c.args.out.now (λ d f. near_tied c.args.self.now.system.tree.forks c.args.self.now.lists c.args.self.now.tied c.sound.ensures));
+      (no_turns g.T.Taker.fault_count g.T.Taker.onward g.T.Taker.stands g.T.Taker.cut c.args.self.now c.args.out.now (λ d f. near_tied c.args.self.now.system.tree.forks c.args.self.now.lists c.args.self.now.tied c.args.self.now.calm c.sound.ensures));
 }
 
 pub loop-left-preserved : goal.loop-left-preserved

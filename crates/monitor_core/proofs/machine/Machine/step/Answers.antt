@@ -1,6 +1,8 @@
 use Rattle.std.proofs.Common.{refl, arith, subst, sym}
 use Rattle.plain_model.specs.Trees.{PlainTree}
 use Rattle.fork_lists.specs.Ties.{AreTied}
+use Rattle.job_sched.specs.Ties.{WaitsLess}
+use Rattle.job_sched.proofs.Waits.{less_none}
 use Rattle.monitor_core.specs.Reaching.{EventReaches}
 use Rattle.monitor_core.proofs.StepDid.{step_acted}
 use Rattle.monitor_core.proofs.Systems.{within_later}
@@ -12,7 +14,8 @@ apply-reply-requires-clause-few g c = within_later c.args.self.now.system c.args
 pub invariant_of-self : goal.invariant_of-self
 invariant_of-self g c = record {
   flat = c.args.self.now.flat;
-  tied = subst (λ (x : PlainTree). AreTied x.forks c.follow_event.new.lists) c.forks.ensures.forks c.follow_event.ensures;
+  tied = subst (λ (x : PlainTree). AreTied x.forks c.follow_event.new.lists) c.forks.ensures.forks c.follow_event.ensures.tied;
+  calm = less_none c.follow_event.new.lists.sched.waiting (subst (λ ws. WaitsLess ws c.follow_event.new.lists.sched.waiting) c.args.self.now.calm c.follow_event.ensures.waits);
   within = c.apply-reply.ensures.did.within c.args.self.now.done c.args.self.now.within;
 }
 

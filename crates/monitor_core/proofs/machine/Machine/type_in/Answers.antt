@@ -4,7 +4,7 @@ use Rattle.script_texts.specs.declared.event.Item.TheVariants.{Refusal}
 use Rattle.script_texts.specs.declared.event.Refusal.TheVariants.{NoJob}
 use Rattle.monitor_core.specs.declared.reply.Reply.TheVariants.{One}
 use Rattle.monitor_core.specs.Acts.{TookText}
-use Rattle.monitor_core.specs.Jobs.{job_at}
+use Rattle.monitor_calls.specs.Jobs.{job_at}
 use Rattle.monitor_core.proofs.EventDid.{missing}
 use Rattle.monitor_core.proofs.JobDid.{did_still}
 use Rattle.monitor_core.proofs.StepDid.{step_acted}

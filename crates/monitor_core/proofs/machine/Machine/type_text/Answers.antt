@@ -2,6 +2,8 @@ use Rattle.std.proofs.Common.{[], take, refl, ap, arith, sym, ◌∙◌, subst}
 use Rattle.plain_model.specs.Trees.{PlainTree}
 use Rattle.plain_model.specs.TypeEvents.{typed_all}
 use Rattle.fork_lists.specs.Ties.{AreTied}
+use Rattle.job_sched.specs.Ties.{WaitsLess}
+use Rattle.job_sched.proofs.Waits.{less_none}
 use Rattle.monitor_core.specs.Reaching.{EchoReaches}
 use Rattle.plain_model.specs.Unit.{Effect}
 use Rattle.script_texts.specs.Taker.{GoesOn}
@@ -33,7 +35,8 @@ pub invariant_of-self : goal.invariant_of-self
 invariant_of-self g c = let m = c.loop-code.self in record {
   flat = m.flat;
   within = c.type_one-shown.ensures.has.within m.done m.within;
-  tied = subst (λ (x : PlainTree). AreTied x.forks c.follow_typed.new.lists) c.forks.ensures.forks c.follow_typed.ensures;
+  tied = subst (λ (x : PlainTree). AreTied x.forks c.follow_typed.new.lists) c.forks.ensures.forks c.follow_typed.ensures.tied;
+  calm = less_none c.follow_typed.new.lists.sched.waiting (subst (λ ws. WaitsLess ws c.follow_typed.new.lists.sched.waiting) m.calm c.follow_typed.ensures.waits);
 }
 
 pub follow_typed-requires-clause-followed : goal.follow_typed-requires-clause-followed

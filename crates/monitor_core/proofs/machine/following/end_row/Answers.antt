@@ -1,11 +1,16 @@
-use Rattle.std.proofs.Common.{◌≡◌, ◌-◌, ◌∙◌, true, sym, subst, arith}
+use Rattle.std.proofs.Common.{◌≡◌, ◌-◌, ◌∙◌, true, cond, Vec, Global, ap, sym, subst, arith}
 use Rattle.fork_lists.specs.declared.lists.ForkLists.{ForkLists}
+use Rattle.fork_lists.specs.declared.seen.Seen.{Seen}
+use Rattle.fork_lists.specs.Following.{followed}
 use Rattle.fork_lists.specs.Ties.{AreTied, ComesOn}
 use Rattle.job_sched.specs.Lines.{Nears, is_in_line}
 use Rattle.job_sched.specs.Schedules.{Schedule, heads}
+use Rattle.job_sched.specs.Ties.{WaitsLess}
 use Rattle.job_sched.specs.Units.{row_ran}
-use Rattle.monitor_core.specs.declared.units.Reach.{Reach}
-use Rattle.monitor_core.specs.Reaching.{Reaches}
+use Rattle.monitor_calls.specs.declared.units.Reach.{Reach}
+use Rattle.monitor_calls.specs.declared.units.Reach.TheVariants.{Own, Made, Job}
+use Rattle.monitor_core.specs.Following.{last_counted, reach_followed}
+use Rattle.monitor_calls.specs.Reaching.{Reaches}
 use Rattle.monitor_core.proofs.ListsTied.{can_follow, tied_followed, tied_own}
 use Rattle.monitor_core.proofs.RowPassed.{comes_behind, head_at, head_goes_on, head_gone}
 use Rattle.monitor_core.proofs.machine.following.end_row.Goals as goal
@@ -100,3 +105,55 @@ returns-then-is_head-clause-closer c f runs apart here =
       | in-Made w ↦ head_goes_on f who m _ (subst (λ (l : ForkLists). ComesOn f m l.sched) (sym w.lists-is) (behind w.follow_maker.new.self.sched (w.follow_maker.ensures.comes_on f runs))) apart still
       | in-Job w ↦ head_goes_on f who m _ (subst (λ (l : ForkLists). ComesOn f m l.sched) (sym w.lists-is) (behind w.follow.new.self.sched (w.follow.ensures.comes_on f runs))) apart still
     ])
+
+pub returns-else-is_head-clause-waits : goal.returns-else-is_head-clause-waits
+returns-else-is_head-clause-waits c =
+    let less = λ (s : Schedule). WaitsLess s.waiting in
+    subst (λ ws. WaitsLess ws c.match-reach.lists.sched.waiting) c.ran_row.ensures.waits (elim c.match-reach.branch [
+      | in-Own w ↦ subst (λ (l : ForkLists). less c.ran_row.new.self.sched l.sched.waiting) (sym w.lists-is) w.follow_slot.ensures.waits
+      | in-Made w ↦ subst (λ (l : ForkLists). less c.ran_row.new.self.sched l.sched.waiting) (sym w.lists-is) w.follow_maker.ensures.waits
+      | in-Job w ↦ subst (λ (l : ForkLists). less c.ran_row.new.self.sched l.sched.waiting) (sym w.lists-is) w.follow.ensures.follows.waits
+    ])
+
+pub returns-then-is_head-clause-waits : goal.returns-then-is_head-clause-waits
+returns-then-is_head-clause-waits c =
+    let less = λ (s : Schedule). WaitsLess s.waiting in
+    subst (WaitsLess c.args.lists.now.sched.waiting) (sym c.ran_row-then-is_head.ensures.waits) (subst (λ ws. WaitsLess ws c.match-reach.lists.sched.waiting) c.ran_row.ensures.waits (elim c.match-reach.branch [
+      | in-Own w ↦ subst (λ (l : ForkLists). less c.ran_row.new.self.sched l.sched.waiting) (sym w.lists-is) w.follow_slot.ensures.waits
+      | in-Made w ↦ subst (λ (l : ForkLists). less c.ran_row.new.self.sched l.sched.waiting) (sym w.lists-is) w.follow_maker.ensures.waits
+      | in-Job w ↦ subst (λ (l : ForkLists). less c.ran_row.new.self.sched l.sched.waiting) (sym w.lists-is) w.follow.ensures.follows.waits
+    ]))
+
+pub returns-else-is_head-clause-schedule : goal.returns-else-is_head-clause-schedule
+returns-else-is_head-clause-schedule c =
+    let now = c.args.tree.now in
+    let who = c.args.who.fork in
+    let seen = c.args.lists.now.seen.items in
+    let row = row_ran (c.args.count - 1) c.args.lists.now.sched in
+    let at = c.match-reach.lists.sched in
+    let same : at ≡ reach_followed c.args.reach now who seen row = elim c.match-reach.branch [
+      | in-Own w ↦ ap (λ (l : ForkLists). l.sched) w.lists-is ∙ w.follow_slot.ensures.schedule ∙ ap (reach_followed Own now who seen) c.ran_row.ensures.ran ∙ ap (λ r. reach_followed r now who seen row) (sym w.in-Own.is)
+      | in-Made w ↦ ap (λ (l : ForkLists). l.sched) w.lists-is ∙ w.follow_maker.ensures.schedule ∙ ap (reach_followed Made now who seen) c.ran_row.ensures.ran ∙ ap (λ r. reach_followed r now who seen row) (sym w.in-Made.is)
+      | in-Job w ↦
+          ap (λ (l : ForkLists). l.sched) w.lists-is ∙ w.follow.ensures.schedule
+          ∙ ap (λ (v : Vec Seen Global). followed now.forks v.items who.tty c.ran_row.new.self.sched) c.ran_row.ensures.seen
+          ∙ ap (reach_followed Job now who seen) c.ran_row.ensures.ran ∙ ap (λ r. reach_followed r now who seen row) (sym w.in-Job.is)
+    ] in
+    sym (ap (λ b. cond b (row_ran 1 at) at) (sym c.is_head.ensures ∙ c.if-is_head.false)) ∙ ap (last_counted who) same
+
+pub returns-then-is_head-clause-schedule : goal.returns-then-is_head-clause-schedule
+returns-then-is_head-clause-schedule c =
+    let now = c.args.tree.now in
+    let who = c.args.who.fork in
+    let seen = c.args.lists.now.seen.items in
+    let row = row_ran (c.args.count - 1) c.args.lists.now.sched in
+    let at = c.match-reach.lists.sched in
+    let same : at ≡ reach_followed c.args.reach now who seen row = elim c.match-reach.branch [
+      | in-Own w ↦ ap (λ (l : ForkLists). l.sched) w.lists-is ∙ w.follow_slot.ensures.schedule ∙ ap (reach_followed Own now who seen) c.ran_row.ensures.ran ∙ ap (λ r. reach_followed r now who seen row) (sym w.in-Own.is)
+      | in-Made w ↦ ap (λ (l : ForkLists). l.sched) w.lists-is ∙ w.follow_maker.ensures.schedule ∙ ap (reach_followed Made now who seen) c.ran_row.ensures.ran ∙ ap (λ r. reach_followed r now who seen row) (sym w.in-Made.is)
+      | in-Job w ↦
+          ap (λ (l : ForkLists). l.sched) w.lists-is ∙ w.follow.ensures.schedule
+          ∙ ap (λ (v : Vec Seen Global). followed now.forks v.items who.tty c.ran_row.new.self.sched) c.ran_row.ensures.seen
+          ∙ ap (reach_followed Job now who seen) c.ran_row.ensures.ran ∙ ap (λ r. reach_followed r now who seen row) (sym w.in-Job.is)
+    ] in
+    c.ran_row-then-is_head.ensures.ran ∙ sym (ap (λ b. cond b (row_ran 1 at) at) (sym c.is_head.ensures ∙ c.if-is_head.true)) ∙ ap (last_counted who) same

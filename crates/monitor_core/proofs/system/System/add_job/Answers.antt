@@ -7,7 +7,7 @@ use Rattle.page_contracts.specs.DrumWords.{DrumWords}
 use Rattle.machine_names.specs.Orders.{same_fork}
 use Rattle.plain_model.specs.Trees.{PlainTree}
 use Rattle.fork_tree.specs.Trees.{IsTree}
-use Rattle.monitor_core.specs.Sound.{AreSound}
+use Rattle.monitor_calls.specs.Sound.{AreSound}
 use Rattle.monitor_core.proofs.EventDid.{did_login}
 use Rattle.file_tables.specs.Tables.{open_of}
 use Rattle.monitor_core.proofs.Logins.{unheld_begun, new_tree, none_first, none_held, room_held, sound_begun, unused}

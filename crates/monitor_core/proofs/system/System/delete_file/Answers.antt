@@ -1,6 +1,6 @@
 use Rattle.std.proofs.Common.{refl, sym, subst}
-use Rattle.monitor_core.specs.Jobs.{AreUnheld}
-use Rattle.monitor_core.proofs.Sounds.{same_tops, sound_same}
+use Rattle.monitor_calls.specs.Jobs.{AreUnheld}
+use Rattle.monitor_calls.proofs.Sounds.{same_tops, sound_same}
 use Rattle.monitor_core.proofs.DeleteDid.{has_deleted, has_not_deleted}
 use Rattle.monitor_core.proofs.system.System.delete_file.Goals as goal
 

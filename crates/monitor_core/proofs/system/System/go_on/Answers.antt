@@ -6,14 +6,14 @@ use Rattle.plain_model.specs.Trees.{PlainTree, with_changed_of}
 use Rattle.fork_calls.proofs.Places.{Keep}
 use Rattle.file_tables.specs.Tables.{open_of}
 use Rattle.job_commands.specs.Going.{can_continue}
-use Rattle.monitor_core.specs.declared.job.Job.{Job}
+use Rattle.monitor_calls.specs.declared.job.Job.{Job}
 use Rattle.monitor_core.proofs.CommandDid.{has_gone_on, has_stayed, resumed_mild}
 use Rattle.monitor_core.proofs.HasDone.{change_keeps, sound_kept}
-use Rattle.monitor_core.proofs.Sounds.{same_tops_set}
+use Rattle.monitor_calls.proofs.Sounds.{same_tops_set}
 use Rattle.monitor_core.proofs.Systems.{top_fork_of, unheld_still}
 use Rattle.monitor_core.proofs.TypeDid.{low_job}
 use Rattle.monitor_core.proofs.JobOthers.{top_changed}
-use Rattle.monitor_core.proofs.ReachDid.{others_same}
+use Rattle.monitor_calls.proofs.ReachDid.{others_same}
 use Rattle.monitor_core.proofs.system.System.go_on.Goals as goal
 
 pub go_on-requires : goal.go_on-requires

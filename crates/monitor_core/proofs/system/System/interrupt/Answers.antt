@@ -3,10 +3,10 @@ use Rattle.std.specs.Prelude.{IsSome}
 use Rattle.plain_model.specs.Trees.{PlainTree}
 use Rattle.fork_calls.proofs.Places.{Keep}
 use Rattle.file_tables.specs.Tables.{open_of}
-use Rattle.monitor_core.specs.declared.job.Job.{Job}
-use Rattle.monitor_core.specs.Typings.{new_typing}
+use Rattle.monitor_calls.specs.declared.job.Job.{Job}
+use Rattle.monitor_calls.specs.Typings.{new_typing}
 use Rattle.monitor_core.proofs.HasDone.{sound_kept}
-use Rattle.monitor_core.proofs.Sounds.{same_tops_set, stands}
+use Rattle.monitor_calls.proofs.Sounds.{same_tops_set, stands}
 use Rattle.monitor_core.proofs.Systems.{top_fork_of, unheld_still}
 use Rattle.monitor_core.proofs.CommandDid.{has_interrupted, stopped_keeps}
 use Rattle.monitor_core.proofs.TypeDid.{low_job, low_typed}

@@ -1,7 +1,7 @@
 use Rattle.std.proofs.Common.{◌<◌, ◌++◌, ◌∷◌, [], length, refl, ◌∙◌, ap, subst}
-use Rattle.monitor_core.specs.declared.typing.Typing.{Typing}
-use Rattle.monitor_core.specs.Typings.{new_typing}
-use Rattle.monitor_core.proofs.Sounds.{stands}
+use Rattle.monitor_calls.specs.declared.typing.Typing.{Typing}
+use Rattle.monitor_calls.specs.Typings.{new_typing}
+use Rattle.monitor_calls.proofs.Sounds.{stands}
 use Rattle.monitor_core.proofs.CommandDid.{has_lengthened}
 use Rattle.monitor_core.proofs.TypeDid.{low_typed}
 use Rattle.plain_typing.specs.declared.typed.TheConstants.{MOST_STORED}

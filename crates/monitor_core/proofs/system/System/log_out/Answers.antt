@@ -1,5 +1,5 @@
 use Rattle.std.proofs.Common.{None, set, refl, sym, subst, arith}
-use Rattle.monitor_core.specs.Jobs.{AreUnheld}
+use Rattle.monitor_calls.specs.Jobs.{AreUnheld}
 use Rattle.monitor_core.proofs.HasDone.{open_room, sound_gone, unheld_gone}
 use Rattle.monitor_core.proofs.RunDid.{has_logged_out}
 use Rattle.file_tables.specs.Tables.{open_of}

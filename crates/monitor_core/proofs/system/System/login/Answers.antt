@@ -4,11 +4,11 @@ use Rattle.script_texts.specs.declared.event.Event.TheVariants.{Login}
 use Rattle.script_texts.specs.declared.event.Item.TheVariants.{Refusal}
 use Rattle.script_texts.specs.declared.event.Refusal.TheVariants.{Busy, SerialsOut}
 use Rattle.monitor_core.specs.declared.reply.Reply.TheVariants.{One}
-use Rattle.monitor_core.specs.Jobs.{job_at}
+use Rattle.monitor_calls.specs.Jobs.{job_at}
 use Rattle.monitor_core.proofs.EventDid.{is_busy, serials_are_out, missing}
 use Rattle.monitor_core.proofs.JobDid.{did_still}
 use Rattle.monitor_core.proofs.Logins.{never_full, none_first, used_up}
-use Rattle.monitor_core.proofs.Sounds.{entry_read}
+use Rattle.monitor_calls.proofs.Sounds.{entry_read}
 use Rattle.monitor_core.proofs.system.System.login.Goals as goal
 
 pub returns-then-is_some-clause-did : goal.returns-then-is_some-clause-did

@@ -4,10 +4,10 @@ use Rattle.monitor_core.proofs.Systems.{top_fork_of, unheld_still}
 use Rattle.monitor_core.proofs.HasDone.{sound_came}
 use Rattle.job_commands.specs.declared.running.NoProgram.{NoProgram}
 use Rattle.monitor_core.proofs.RunDid.{has_not_run, has_run_on}
-use Rattle.monitor_core.proofs.Sounds.{same_tops, same_tops_set, stands}
+use Rattle.monitor_calls.proofs.Sounds.{same_tops, same_tops_set, stands}
 use Rattle.plain_model.specs.InterruptCalls.{living_codes}
-use Rattle.monitor_core.specs.declared.typing.Typing.{Typing}
-use Rattle.monitor_core.specs.Typings.{new_typing}
+use Rattle.monitor_calls.specs.declared.typing.Typing.{Typing}
+use Rattle.monitor_calls.specs.Typings.{new_typing}
 use Rattle.monitor_core.proofs.TypeDid.{low_job, low_typed}
 use Rattle.file_tables.specs.Tables.{open_of}
 use Rattle.monitor_core.proofs.JobOthers.{top_others}

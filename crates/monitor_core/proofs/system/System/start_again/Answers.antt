@@ -4,10 +4,10 @@ use Rattle.plain_model.specs.Commands.{restarted}
 use Rattle.plain_model.specs.Trees.{PlainTree, with_changed_of}
 use Rattle.fork_calls.proofs.Places.{Keep}
 use Rattle.file_tables.specs.Tables.{open_of}
-use Rattle.monitor_core.specs.declared.job.Job.{Job}
+use Rattle.monitor_calls.specs.declared.job.Job.{Job}
 use Rattle.monitor_core.proofs.CommandDid.{has_started, restarted_mild}
 use Rattle.monitor_core.proofs.HasDone.{change_keeps, sound_kept}
-use Rattle.monitor_core.proofs.Sounds.{same_tops_set}
+use Rattle.monitor_calls.proofs.Sounds.{same_tops_set}
 use Rattle.monitor_core.proofs.Systems.{top_fork_of, unheld_still}
 use Rattle.monitor_core.proofs.TypeDid.{low_job}
 use Rattle.monitor_core.proofs.JobOthers.{top_changed}

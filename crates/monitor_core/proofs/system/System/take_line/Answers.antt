@@ -1,6 +1,6 @@
 use Rattle.std.proofs.Common.{refl, ◌∙◌}
-use Rattle.monitor_core.specs.Typings.{new_typing}
-use Rattle.monitor_core.proofs.Sounds.{stands}
+use Rattle.monitor_calls.specs.Typings.{new_typing}
+use Rattle.monitor_calls.proofs.Sounds.{stands}
 use Rattle.monitor_core.proofs.CommandDid.{has_taken}
 use Rattle.monitor_core.proofs.TypeDid.{low_typed}
 use Rattle.monitor_core.proofs.system.System.take_line.Goals as goal

@@ -6,7 +6,7 @@ use Rattle.fork_calls.proofs.Places.{Keep}
 use Rattle.monitor_core.proofs.EventDid.{did_tick}
 use Rattle.monitor_core.proofs.HasDone.{sound_kept}
 use Rattle.monitor_core.proofs.Sleepers.{sleepers_keep}
-use Rattle.monitor_core.proofs.Sounds.{same_tops}
+use Rattle.monitor_calls.proofs.Sounds.{same_tops}
 use Rattle.monitor_core.proofs.system.System.tick.Goals as goal
 
 pub invariant_of-self : goal.invariant_of-self

@@ -1,18 +1,18 @@
 use Rattle.std.proofs.Common.{refl, sym, ◌∙◌, ap, subst, length-set}
 use Rattle.plain_model.specs.Trees.{PlainTree}
 use Rattle.plain_model.specs.TypeEvents.{interrupted, posted_at}
-use Rattle.monitor_core.specs.declared.typing.Typing.{Typing}
+use Rattle.monitor_calls.specs.declared.typing.Typing.{Typing}
 use Rattle.monitor_core.specs.Echoes.{echo_items}
 use Rattle.plain_typing.specs.declared.typed.Typed.TheVariants.{Stored}
 use Rattle.plain_typing.specs.Characters.{read_as}
 use Rattle.plain_typing.specs.Typing.{fate_of, left_by}
 use Rattle.fork_calls.proofs.Places.{Keep}
-use Rattle.monitor_core.specs.Typings.{new_typing}
+use Rattle.monitor_calls.specs.Typings.{new_typing}
 use Rattle.monitor_core.proofs.CommandDid.{has_kept, has_shown, has_stopped, readers_keep}
 use Rattle.monitor_core.proofs.HasDone.{has_from, sound_kept}
 use Rattle.monitor_core.proofs.JobDid.{put_back}
 use Rattle.monitor_core.proofs.PostDid.{has_posting}
-use Rattle.monitor_core.proofs.Sounds.{same_tops, stands}
+use Rattle.monitor_calls.proofs.Sounds.{same_tops, stands}
 use Rattle.monitor_core.proofs.TypeDid.{low_typed}
 use Rattle.monitor_core.proofs.JobOthers.{readers_stay, stored_reaches}
 use Rattle.monitor_core.proofs.system.System.type_program.Goals as goal

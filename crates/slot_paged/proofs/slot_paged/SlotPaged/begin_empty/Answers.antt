@@ -4,7 +4,7 @@ use Rattle.page_contracts.specs.Stores.{HomePlace}
 use Rattle.plain_pages.specs.declared.map.NewMap.TheVariants as new_map
 use Rattle.plain_pages.specs.NewMaps.{with_map}
 use Rattle.pager_walk.specs.PagedMaps.{Tables, FitsMaps, with_root}
-use Rattle.flat_pages.specs.HeldMaps.{no_page}
+use Rattle.flat_tables.specs.HeldMaps.{no_page}
 use Rattle.paged_tables.specs.PagedTables.{Beside, FitsPages, beside_of, plain_over}
 use Rattle.paged_tables.specs.PagedMeaning.{with_fork}
 use Rattle.paged_tables.proofs.NewForks.{begun_told, empty_entries, empty_plain, new_entries}

@@ -5,8 +5,8 @@ use Rattle.plain_pages.specs.declared.map.NewMap.TheVariants as new_map
 use Rattle.plain_pages.specs.NewMaps.{with_map}
 use Rattle.pager_walk.specs.NewPages.{following_words}
 use Rattle.pager_walk.specs.PagedMaps.{Tables, FitsMaps, with_root}
-use Rattle.flat_pages.specs.HeldMaps.{followers}
-use Rattle.flat_pages.proofs.Beginning.{followers_follow, followers_new}
+use Rattle.flat_tables.specs.HeldMaps.{followers}
+use Rattle.flat_tables.proofs.Beginning.{followers_follow, followers_new}
 use Rattle.paged_tables.specs.PagedTables.{Beside, FitsPages, beside_of, plain_over}
 use Rattle.paged_tables.specs.PagedMeaning.{with_fork}
 use Rattle.paged_tables.proofs.NewForks.{begun_told, following_entries}

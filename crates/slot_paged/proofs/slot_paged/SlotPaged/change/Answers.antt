@@ -9,7 +9,7 @@ use Rattle.share_table.specs.declared.pointer.Pointer.{Pointer}
 use Rattle.share_table.specs.Pointers.{IsPointer, pointer_word}
 use Rattle.pager_walk.specs.declared.paged_entry.PagedEntry.TheVariants as paged
 use Rattle.pager_walk.specs.PagedMaps.{entry_for, is_near, name_of, plain_entry}
-use Rattle.flat_pages.proofs.FiledHomes.{get_filed}
+use Rattle.flat_tables.proofs.FiledHomes.{get_filed}
 use Rattle.paged_tables.specs.PagedTables.{Beside, beside_of}
 use Rattle.paged_tables.specs.PagedSlots.{filed_over}
 use Rattle.paged_tables.specs.SetEntries.{ChangesEntry, PutsPointer, narrow_paged, pointer_of}

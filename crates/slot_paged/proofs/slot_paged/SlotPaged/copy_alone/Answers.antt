@@ -3,7 +3,7 @@ use Rattle.std.specs.Prelude.{IsSome, slice_set}
 use Rattle.page_contracts.specs.Stores.{HomePlace, IsUsed, is_taken, place, with_word_in}
 use Rattle.share_table.specs.declared.pointer.Pointer.{Pointer}
 use Rattle.share_table.specs.Pointers.{IsPointer, pointer_word}
-use Rattle.flat_pages.specs.TableSteps.{next_name}
+use Rattle.flat_tables.specs.TableSteps.{next_name}
 use Rattle.pager_walk.specs.declared.paged_entry.PagedEntry.TheVariants.{Page}
 use Rattle.pager_walk.specs.MapPages.{index_of, root_at}
 use Rattle.pager_walk.specs.PagedMaps.{Tables, AreRooted, FitsMaps, entry_for, tables_of, with_name}

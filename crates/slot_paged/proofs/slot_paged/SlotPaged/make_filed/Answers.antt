@@ -4,7 +4,7 @@ use Rattle.std.specs.FinMap as fin
 use Rattle.machine_names.specs.Orders.{file_page}
 use Rattle.machine_names.specs.PageWords.{zero_words}
 use Rattle.page_contracts.specs.Stores.{HomePlace, here, is_taken}
-use Rattle.flat_pages.specs.TableSteps.{next_name}
+use Rattle.flat_tables.specs.TableSteps.{next_name}
 use Rattle.pager_walk.specs.PagedMaps.{Tables, AreRooted, tables_of, with_name}
 use Rattle.paged_tables.specs.declared.paged_tables.PagedTables.{PagedTables}
 use Rattle.paged_tables.specs.MadePages.{page_filed}

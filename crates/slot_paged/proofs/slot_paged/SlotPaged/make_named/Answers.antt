@@ -4,8 +4,8 @@ use Rattle.page_homes.specs.declared.homes.Home.{Home}
 use Rattle.page_contracts.specs.Stores.{HomePlace, IsUsed, is_here, is_taken, place, with_word_in}
 use Rattle.share_table.specs.declared.pointer.Pointer.TheVariants.{Private}
 use Rattle.share_table.specs.Pointers.{pointer_word}
-use Rattle.flat_pages.specs.TableSteps.{next_name}
-use Rattle.flat_pages.proofs.Making.{here_taken}
+use Rattle.flat_tables.specs.TableSteps.{next_name}
+use Rattle.flat_tables.proofs.Making.{here_taken}
 use Rattle.pager_walk.specs.declared.paged_entry.Looked.{Looked}
 use Rattle.pager_walk.specs.MapPages.{index_of, root_at}
 use Rattle.pager_walk.specs.PagedMaps.{Tables, AreRooted, FitsMaps, look_at, tables_of, with_name}

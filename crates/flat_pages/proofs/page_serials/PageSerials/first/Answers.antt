@@ -1,7 +1,0 @@
-use Rattle.std.proofs.Common.{rules}
-use Rattle.plain_pages.specs.PlainPages.{first_serials}
-use Rattle.flat_pages.proofs.page_serials.PageSerials.first.Goals as goal
-
-pub returns-clause-terminals : goal.returns-clause-terminals
-unfolding first_serials
-returns-clause-terminals c = search rules

@@ -1,0 +1,12 @@
+pub mod HeldEntries
+pub mod ForkMaps
+pub mod WalkSteps
+pub mod LivingMaps
+pub mod FiledHomes
+pub mod NextSerials
+pub mod Taking
+pub mod Making
+pub mod Beginning
+pub mod Opening
+pub mod Looking
+pub mod Numbering

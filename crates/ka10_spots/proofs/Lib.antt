@@ -1,0 +1,4 @@
+pub mod Stored
+pub mod Used
+pub mod Ready
+pub mod IndirectWords

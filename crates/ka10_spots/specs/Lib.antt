@@ -1,0 +1,3 @@
+pub mod Once
+pub mod Glide
+pub mod Spots

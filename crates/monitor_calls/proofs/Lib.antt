@@ -1,0 +1,23 @@
+mod Making
+pub mod Writes
+pub mod Maps
+mod MapFrom
+pub mod Lookups
+mod Kills
+pub mod ShownWords
+pub mod Silent
+mod UnitRan
+mod UnitRows
+pub mod Keeping
+mod Leaving
+mod Stopping
+mod Calling
+pub mod NamedKeys
+pub mod JfnsAsked
+mod JfnTurns
+mod MapTurns
+mod ByteTurns
+mod CodeTurns
+pub mod Sounds
+mod MadeBeside
+pub mod ReachDid

@@ -1,0 +1,28 @@
+use Rattle.std.proofs.Common.{◌<◌, ◌+◌, arith, ◌∙◌, ap, length, slice_index}
+use Rattle.std.proofs.lemmas.Grind.{get_or_default_zero}
+use Rattle.page_contracts.specs.Pages.{spot_of}
+use Rattle.plain_pages.specs.References.{stored}
+use Rattle.std.specs.Prelude.{slice_index_or}
+use Rattle.ka10_spots.proofs.Used.{stays_on}
+use Rattle.monitor_calls.proofs.ShownWords.{stored_next}
+use Rattle.monitor_calls.proofs.writing.put_row.Goals as goal
+
+pub loop-i-preserved : goal.loop-i-preserved
+loop-i-preserved g c =
+    let i = c.loop-i.invariant in
+    let row = c.args.row.now in
+    let low : c.loop-i.i < length row.words = omega (arith, c.loop-i-test.true, c.requires.row.most, c.requires.row.room) in record {
+      few = omega (arith, c.loop-i-test.true);
+      stays = stays_on g.P.Pages.means c.args.pages.now c.loop-i.pages c.put.new.self i.stays c.put.ensures.stays;
+      told = λ d f.
+          let so_far = i.told d f in
+          let put = c.put.ensures.told d so_far.0 in
+          let here = spot_of c.args.at in
+          let mid = g.P.Pages.means.plain c.loop-i.pages d in (
+            put.0,
+            put.1 ∙ ap (λ k. stored mid here (c.args.offset + k) (slice_index_or row.words c.loop-i.i c.index-row-i.result)) c.from.ensures
+                ∙ ap (stored mid here (c.args.offset + c.loop-i.i)) (get_or_default_zero row.words c.loop-i.i c.index-row-i.result low)
+                ∙ ap (λ p. stored p here (c.args.offset + c.loop-i.i) (slice_index row.words c.loop-i.i)) so_far.1
+                ∙ stored_next (g.P.Pages.means.plain c.args.pages.now d) (spot_of c.args.at) c.args.offset row.words c.loop-i.i low,
+          );
+    }

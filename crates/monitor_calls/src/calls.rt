@@ -1,0 +1,362 @@
+// Monitor calls by their numbers.
+ghost use Rattle.std.specs.Prelude.{◌≡◌, ◌<◌, ◌%◌, ◌^◌, IfErr, IfOk, IsOk, IsSome, None, Some, length, slice_index, true};
+ghost use Rattle.std.specs.FinMap as map;
+ghost use Rattle.machine_names.specs.declared.names.TheConstants.{ACCUMULATORS, TERMINALS};
+ghost use Rattle.file_tables.specs.Tables.{open_of};
+ghost use Rattle.plain_model.specs.declared.fork.Body.{Body as ABody};
+ghost use Rattle.plain_model.specs.declared.fork.Fork.{Fork as AFork};
+ghost use Rattle.script_texts.specs.declared.status.ForkStatus.{ForkStatus as AForkStatus};
+ghost use Rattle.plain_pages.specs.PlainPages.{NumberedPages};
+ghost use Rattle.plain_model.specs.Forks.{counted, fork_in, with_regs, with_status};
+ghost use Rattle.plain_model.specs.Calls.{behind_call, failed_regs, is_among, no_files, numbered, posted_if, turn_on, with_error, with_wait};
+ghost use Rattle.plain_model.specs.Families.{print_calls};
+ghost use Rattle.plain_model.specs.Trees.{with_body};
+ghost use Rattle.page_contracts.specs.declared.answers.Need.{Need as ANeed};
+ghost use Rattle.call_turns.specs.Answers.{AnswerNeeds, IsDone, answer_of};
+ghost use Rattle.call_turns.specs.Turns.{IsRegs};
+ghost use Rattle.fork_calls.specs.Holding.{CallLeaves, Holds, MakesPages};
+ghost use Rattle.fork_calls.specs.Limits.{AreWithin};
+ghost use Rattle.plain_model.specs.ForkCalls.{fork_call};
+ghost use Rattle.fork_calls.specs.Asking.{asked};
+ghost use Rattle.fork_calls.specs.Needing.{call_frames};
+ghost use Rattle.fork_calls.specs.Turning.{HasRegs, Turned as ForksTurned};
+ghost use Rattle.fork_tree.specs.Making.{AddsLast};
+ghost use Rattle.fork_tree.specs.Trees.{IsTree};
+ghost use Rattle.plain_model.specs.declared.call.TheConstants.{CFORK};
+ghost use Rattle.monitor_calls.specs.Limits.{unit_frames};
+ghost use Rattle.monitor_calls.specs.Reaching.{Reaches, reach_of};
+ghost use Rattle.monitor_calls.specs.Shown.{shown_of};
+ghost use Rattle.monitor_calls.specs.Jobs.{AreUnheld};
+ghost use Rattle.monitor_calls.specs.Writing.{most_makings};
+ghost use Rattle.monitor_calls.specs.ForkUnit.{CallWaits, Called, HasJob, Place as APlace, Turns, answered as answered_of, fork_of, line_behind, out_in, tables_in};
+
+use crate::job::Job;
+use crate::runner::Runner;
+use crate::shown::{Shown, stop_of};
+use crate::typing::Typing;
+use crate::unit::post_channel;
+use crate::units::Reach;
+use byte_io::is_byte_call;
+use call_turns::{Answer, behind};
+use clock_calls::is_clock_call;
+use file_calls::{is_file_call, is_jfn_call};
+use file_tables::FileTables;
+use fork_calls::is_fork_call;
+use fork_tree::Tree;
+use machine_names::ForkName;
+use page_contracts::{Need, Pages};
+use plain_model::Body;
+use plain_model::call::{CFORK, KFORK, PBOUT};
+use plain_units::Regs;
+use plain_units::channel::ILLEGAL_INSTRUCTION;
+use pmap_calls::is_map_call;
+use psi_calls::{forget_lost, is_psi_call};
+use script_texts::{ForkStatus, WaitOn};
+use string_io::is_string_call;
+use text_pointers::Scratch;
+use tty_lines::Line;
+use word36::Word;
+
+// Whether a number is that of a call that prints.
+fn is_print_call(number: u32) -> bool
+    ensures { result ≡ is_among print_calls number }
+{
+    match number {
+        PBOUT => true,
+        _ => false,
+    }
+}
+
+// PBOUT prints the low 7 bits of accumulator 1.
+fn pbout(regs: &Regs) -> Answer
+    requires { IsRegs regs.now }
+    ensures told { result ≡ Answer.After (behind_call regs.now) (Some (slice_index regs.now.ac 1 % 128)) None }
+    ensures regs { HasRegs result }
+{
+    let code = (regs.ac[1].value() % 128) as u8;
+    Answer::After {
+        regs: behind(*regs),
+        out: Some(code),
+        post: None,
+    }
+}
+
+// A turn of a call that prints, by its number.
+fn print_call(number: u32, regs: &Regs) -> Answer
+    requires { IsRegs regs.now }
+    ensures told { (p : NumberedPages) → result ≡ answer_of (turn_on no_files p (numbered print_calls number regs.now)).end }
+    ensures done { IsDone result }
+    ensures regs { HasRegs result }
+{
+    if number == PBOUT {
+        return pbout(regs);
+    }
+    Answer::Trap(ILLEGAL_INSTRUCTION)
+}
+
+// A turn of a fork call. Where it has killed forks, the codes that they have assigned are assigned to nothing.
+fn fork_turn<P: Pages>(
+    number: u32,
+    regs: &Regs,
+    who: ForkName,
+    tree: &mut Tree,
+    line: &mut Line,
+    pages: &mut P,
+) -> Answer
+    requires regs { IsRegs regs.now }
+    requires lives { IsSome (map.get tree.old.forks who) }
+    requires holds { Holds P.means pages.old tree.old.forks }
+    requires within { AreWithin tree.old.forks }
+    requires serial { P.means.serial pages.old who.tty < 2 ^ 62 }
+    ensures told { ForksTurned P.means pages.old pages.new tree.old tree.new result (fork_call number (asked who regs.now tree.old)) }
+    ensures line { line.new ≡ line_behind number result tree.new.forks line.old }
+    ensures input { line.new.input ≡ line.old.input }
+    ensures trees { IsTree tree.old }
+    ensures needs { AnswerNeeds P.means.store call_frames pages.new result }
+    ensures core { P.means.flat ≡ true → IsDone result }
+    ensures unmade { (n : ANeed) → result ≡ Answer.Need n → MakesPages P.means who.tty 0 pages.old pages.new }
+    ensures leaves { CallLeaves P.means pages.old pages.new tree.old tree.new who 128 }
+    ensures adds { number ≡ CFORK → AddsLast who.tty tree.old tree.new }
+    ensures regs { HasRegs result }
+{
+    tree.are_trees();
+    let answer = fork_calls::call(number, regs, who, tree, pages);
+    if let Answer::After { .. } = &answer {
+        if number == KFORK {
+            forget_lost(line, tree);
+        }
+    }
+    answer
+}
+
+// A turn of a monitor call, by its number: of the first family of calls that has the number. A number that is no call traps. One that
+// needs something first leaves all as it was.
+fn turn<P: Pages>(
+    number: u32,
+    regs: &Regs,
+    who: ForkName,
+    tree: &mut Tree,
+    files: &mut FileTables,
+    jobs: &Vec<Option<Job>>,
+    typed: &mut Vec<Typing>,
+    clock: u64,
+    scratch: &mut Scratch,
+    pages: &mut P,
+) -> Answer
+    requires regs { IsRegs regs.now }
+    requires lives { IsSome (map.get tree.old.forks who) }
+    requires holds { Holds P.means pages.old tree.old.forks }
+    requires within { AreWithin tree.old.forks }
+    requires job { HasJob files.old jobs.now.items typed.old.items who.tty }
+    requires serial { P.means.serial pages.old who.tty < 2 ^ 62 }
+    requires clock { clock < 2 ^ 63 }
+    ensures told { Turns P.means pages.old pages.new (tables_in tree.old files.old jobs.now.items typed.old.items clock) (tables_in tree.new files.new jobs.now.items typed.new.items clock) who regs.now number result }
+    ensures unheld { AreUnheld (open_of files.new) jobs.now.items }
+    ensures stays { (n : ANeed) → result ≡ Answer.Need n → files.new ≡ files.old }
+    ensures untyped { (n : ANeed) → result ≡ Answer.Need n → typed.new.items ≡ typed.old.items }
+    ensures typing_room { length typed.new.items ≡ TERMINALS }
+    ensures needs { AnswerNeeds P.means.store unit_frames pages.new result }
+    ensures core { P.means.flat ≡ true → IsDone result }
+    ensures unmade { (n : ANeed) → result ≡ Answer.Need n → MakesPages P.means who.tty 0 pages.old pages.new }
+    ensures leaves { CallLeaves P.means pages.old pages.new tree.old tree.new who most_makings }
+    ensures own { reach_of number ≡ Reach.Own → tree.new ≡ tree.old }
+    ensures made { reach_of number ≡ Reach.Made → AddsLast who.tty tree.old tree.new }
+    ensures regs { HasRegs result }
+{
+    if is_print_call(number) {
+        return print_call(number, regs);
+    }
+    if is_fork_call(number) {
+        let assigned = &mut typed[who.tty.0 as usize].input;
+        return fork_turn(number, regs, who, tree, assigned, pages);
+    }
+    if is_psi_call(number) {
+        let codes = &mut typed[who.tty.0 as usize].input;
+        return psi_calls::call(number, regs, who, tree, codes, &mut scratch.reader, pages);
+    }
+    if is_clock_call(number) {
+        tree.are_trees();
+        return clock_calls::call(number, regs, who, tree, clock);
+    }
+    if is_map_call(number) {
+        return pmap_calls::call(number, regs, who, tree, files, pages);
+    }
+    if is_file_call(number) {
+        return file_calls::call(number, regs, who, tree);
+    }
+    if is_jfn_call(number) {
+        let Some(job) = &jobs[who.tty.0 as usize] else {
+            unreachable!();
+        };
+        return file_calls::jfn_call(number, regs, who, &job.user, files, scratch, pages);
+    }
+    if is_byte_call(number) {
+        let line = &mut typed[who.tty.0 as usize].input;
+        return byte_io::call(number, regs, who, line, files, pages);
+    }
+    if is_string_call(number) {
+        let input = &mut typed[who.tty.0 as usize].input;
+        return string_io::call(number, regs, who, input, files, pages);
+    }
+    Answer::Trap(ILLEGAL_INSTRUCTION)
+}
+
+/// How far a monitor call of a number may reach.
+pub fn reach_of(number: u32) -> Reach
+    ensures { result ≡ reach_of number }
+{
+    if number == CFORK {
+        Reach::Made
+    } else if is_fork_call(number) || is_psi_call(number) || is_clock_call(number) {
+        Reach::Job
+    } else {
+        Reach::Own
+    }
+}
+
+// The fork waits; one that sleeps knows to which moment.
+fn wait(body: &mut Body, what: WaitOn)
+    ensures fork { (f : AFork) → with_body body.new f ≡ with_wait (with_body body.old f) what }
+    ensures units { body.new.units ≡ body.old.units }
+{
+    if let WaitOn::Sleep(moment) = what {
+        body.sleep = Some(moment);
+    }
+    body.status = ForkStatus::Wait(what);
+}
+
+// The fork is halted, behind the call.
+fn halt(body: &mut Body)
+    requires { body.old.regs.pc < 2 ^ 18 }
+    ensures fork { (f : AFork) → with_body body.new f
+        ≡ with_status (with_regs (with_body body.old f) (behind_call body.old.regs)) AForkStatus.Halted }
+    ensures units { body.new.units ≡ body.old.units }
+{
+    body.regs = behind(body.regs);
+    body.status = ForkStatus::Halted;
+}
+
+// A call with two returns is refused: it returns by the first, with the code in accumulator 1.
+fn fail(body: &mut Body, code: u32)
+    requires pc { body.old.regs.pc < 2 ^ 18 }
+    requires accumulators { length body.old.regs.ac ≡ ACCUMULATORS }
+    ensures fork { (f : AFork) → with_body body.new f
+        ≡ with_error (with_regs (with_body body.old f) (failed_regs body.old.regs code)) code }
+    ensures units { body.new.units ≡ body.old.units }
+{
+    body.regs.ac[1] = Word::wrapped(u64::from(code));
+    body.regs = behind(body.regs);
+    body.error = code;
+}
+
+// A channel is posted, if one is.
+fn post_if(body: &mut Body, channel: Option<u8>)
+    ensures fork { (f : AFork) → with_body body.new f ≡ posted_if (with_body body.old f) channel }
+    ensures units { body.new.units ≡ body.old.units }
+{
+    if let Some(channel) = channel {
+        post_channel(body, channel);
+    }
+}
+
+// A fork is as a turn of its call leaves it that has answered so, but for its count of units: one that is refused leaves its error, and
+// traps where it has one return; who waits stays on the call. What it prints.
+fn left(body: &mut Body, answer: Answer) -> Option<u8>
+    requires pc { body.old.regs.pc < 2 ^ 18 }
+    requires accumulators { length body.old.regs.ac ≡ ACCUMULATORS }
+    requires done { IsDone answer }
+    ensures fork { (f : AFork) → with_body body.new f ≡ answered_of (with_body body.old f) answer }
+    ensures units { body.new.units ≡ body.old.units }
+    ensures out { result ≡ out_in answer }
+{
+    match answer {
+        Answer::After { regs, out, post } => {
+            body.regs = regs;
+            post_if(body, post);
+            out
+        }
+        Answer::Wait(what) => {
+            wait(body, what);
+            None
+        }
+        Answer::Halt => {
+            halt(body);
+            None
+        }
+        Answer::Refused(code) => {
+            body.error = code;
+            post_channel(body, ILLEGAL_INSTRUCTION);
+            None
+        }
+        Answer::Failed(code) => {
+            fail(body, code);
+            None
+        }
+        Answer::Trap(channel) => {
+            post_channel(body, channel);
+            None
+        }
+        Answer::Need(_) => unreachable!(),
+    }
+}
+
+// A turn of a call is over that has answered so.
+fn answered(body: &mut Body, answer: Answer) -> Shown
+    requires few { body.old.units < 2 ^ 63 }
+    requires pc { body.old.regs.pc < 2 ^ 18 }
+    requires accumulators { length body.old.regs.ac ≡ ACCUMULATORS }
+    requires done { IsDone answer }
+    ensures fork { (f : AFork) → with_body body.new f ≡ counted (answered_of (with_body body.old f) answer) }
+    ensures shown { result ≡ shown_of (out_in answer) body.new.status }
+{
+    let out = left(body, answer);
+    body.units += 1;
+    Shown {
+        out,
+        stop: stop_of(body.status),
+    }
+}
+
+/// A turn of a monitor call of a fork of a tree, by its number: the fork that called is then as the change leaves it. Err: it needs
+/// this first, and nothing was changed.
+pub fn called<P: Pages>(
+    tree: &mut Tree,
+    pages: &mut P,
+    files: &mut FileTables,
+    jobs: &Vec<Option<Job>>,
+    typed: &mut Vec<Typing>,
+    clock: u64,
+    scratch: &mut Scratch,
+    who: Runner,
+    number: u32,
+) -> Result<Shown, Need>
+    requires there { IsSome (fork_in tree.old.forks who.fork.tty who.slot) }
+    requires named { (f : AFork) → fork_in tree.old.forks who.fork.tty who.slot ≡ Some f → f.name ≡ who.fork }
+    requires can { AreWithin tree.old.forks }
+    requires few { (f : AFork) → fork_in tree.old.forks who.fork.tty who.slot ≡ Some f → f.body.units < 2 ^ 63 }
+    requires holds { Holds P.means pages.old tree.old.forks }
+    requires job { HasJob files.old jobs.now.items typed.old.items who.fork.tty }
+    requires serial { P.means.serial pages.old who.fork.tty < 2 ^ 62 }
+    requires clock { clock < 2 ^ 63 }
+    ensures called { (at : APlace) (b : ABody) → fork_in tree.old.forks who.fork.tty who.slot ≡ Some (fork_of who.fork at b)
+        → IfOk result (Called P.means pages.old pages.new (tables_in tree.old files.old jobs.now.items typed.old.items clock) (tables_in tree.new files.new jobs.now.items typed.new.items clock) (fork_of who.fork at b) number) }
+    ensures needs { IfErr result (CallWaits P.means pages.old pages.new (tables_in tree.old files.old jobs.now.items typed.old.items clock) (tables_in tree.new files.new jobs.now.items typed.new.items clock) who.fork) }
+    ensures core { P.means.flat ≡ true → IsOk result }
+    ensures reach { Reaches (reach_of number) who.fork tree.old tree.new }
+{
+    let Some(fork) = tree.fork_at(who.fork.tty, who.slot) else {
+        unreachable!();
+    };
+    let regs = fork.body.regs;
+    let answer = turn(
+        number, &regs, who.fork, tree, files, jobs, typed, clock, scratch, pages,
+    );
+    if let Answer::Need(need) = answer {
+        return Err(need);
+    }
+    tree.are_trees();
+    match tree.body_mut(who.fork) {
+        Some(body) => Ok(answered(body, answer)),
+        None => Ok(Shown::NOTHING),
+    }
+}

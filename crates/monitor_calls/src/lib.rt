@@ -1,0 +1,21 @@
+//! Units of a fork in a row, with the monitor calls that they make, over the tree of forks, pages, files and what was typed.
+//! To the layer above so many units leave what the plain machine's leave, and say what they show and how far they reach.
+//! Stands on `ka10_in_place` and `ka10_unit` for units, on `psi_system` for interrupts, and on a crate for each family of calls.
+#![tactic(auto)]
+
+mod calls;
+mod job;
+mod runner;
+mod shown;
+mod typing;
+mod unit;
+mod units;
+mod writing;
+
+pub use job::{Job, empty_jobs, seen, seen_stop};
+pub use runner::Runner;
+pub use shown::{Shown, Stop};
+pub use typing::{Typing, empty_typings};
+pub use unit::channel_of;
+pub use units::{Reach, Units, units_of};
+pub use writing::{Barred, write_row, write_word};

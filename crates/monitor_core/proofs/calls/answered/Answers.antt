@@ -1,6 +1,0 @@
-use Rattle.std.proofs.Common.{ap}
-use Rattle.plain_model.specs.Forks.{counted}
-use Rattle.monitor_core.proofs.calls.answered.Goals as goal
-
-pub returns-clause-fork : goal.returns-clause-fork
-returns-clause-fork c f = ap counted (c.left-out.ensures.fork f)
