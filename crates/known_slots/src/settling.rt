@@ -9,7 +9,6 @@ impl<S: Store> KnownSlots<S> {
     ghost use Rattle.std.specs.Prelude.{◌≡◌, ◌⊎◌, ℕ, None};
     ghost use Rattle.page_contracts.specs.Pages.{IsPlace};
     ghost use Rattle.known_slots.specs.Slots.{slots};
-    ghost use Rattle.paged_tables.specs.PagedTables.{beside_of};
     ghost use Rattle.known_slots.specs.WalkTimes.{known_rows};
 
     /// What is known of walks is forgotten, unless a page is only used.

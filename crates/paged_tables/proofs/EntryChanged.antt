@@ -1,5 +1,5 @@
 -- An entry that was set is set anew as is asked.
-use Rattle.std.proofs.Common.{◌≡◌, ℕ, ◌<◌, List, true, false, Option, None, Some, is_some, refl, sym, ◌∙◌, ap, subst}
+use Rattle.std.proofs.Common.{◌≡◌, ℕ, ◌<◌, List, true, Option, None, Some, is_some, refl, sym, ◌∙◌, ap, subst}
 use Rattle.std.specs.Prelude.{nat_lt}
 use Rattle.std.specs.Option.{option_map, option_map_or, unwrap_or}
 use Rattle.std.specs.FinMap as fin

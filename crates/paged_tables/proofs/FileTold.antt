@@ -19,7 +19,7 @@ use Rattle.page_contracts.specs.Pages.{absent_or, can_settle}
 use Rattle.page_contracts.specs.Stores.{HomePlace, StoreMeaning, away_at, content, free, here, place}
 use Rattle.plain_pages.specs.References.{in_file, settled}
 use Rattle.pager_walk.specs.MapPages.{root_at}
-use Rattle.pager_walk.specs.PagedMaps.{Tables, entry_in, with_name}
+use Rattle.pager_walk.specs.PagedMaps.{Tables, with_name}
 use Rattle.pager_walk.proofs.Changing.{content_other}
 use Rattle.pager_walk.proofs.Looking.{ArePages}
 use Rattle.pager_walk.proofs.NamedPages.{same_word}

@@ -1,34 +1,20 @@
 -- The pages of a file that go one after another.
-use Rattle.std.proofs.Common.{◌≡◌, inl, inr, ℕ, ◌+◌, ◌≤◌, Bool, Option, None, Some, is_some, refl, sym, ◌∙◌, ap, subst, arith}
-use Rattle.std.specs.Prelude.{◌⊎◌}
+use Rattle.std.proofs.Common.{◌≡◌, inl, inr, ℕ, ◌+◌, Option, None, Some, refl, sym, ◌∙◌, ap, subst, arith}
 use Rattle.std.specs.FinMap as fin
-use Rattle.std.specs.Option.{option_map, unwrap_or}
-use Rattle.std.proofs.lemmas.Bool.{cases_eq, cases_lt}
-use Rattle.machine_names.specs.declared.names.PageName.{PageName}
-use Rattle.machine_names.specs.declared.names.TheConstants.{FILE_PAGES}
+use Rattle.std.proofs.lemmas.Bool.{cases_eq}
 use Rattle.machine_names.specs.Orders.{FilePage, file_page}
 use Rattle.page_homes.specs.declared.homes.Home.{Home}
-use Rattle.page_contracts.specs.DrumWords.{DrumWords}
-use Rattle.page_contracts.specs.Pages.{DropsFile, FileNames, FilesOne, IsOfFile}
-use Rattle.page_contracts.specs.Stores.{IsSound, StoreMeaning, free, place, traffic}
+use Rattle.page_contracts.specs.Stores.{IsSound, StoreMeaning, traffic}
 use Rattle.page_contracts.proofs.Losing.{keeps_frames, loses_nothing, loses_on, none_on}
 use Rattle.plain_pages.specs.PlainPages.{NumberedPages}
-use Rattle.plain_pages.specs.FilePages.{with_file, without_file}
+use Rattle.plain_pages.specs.FilePages.{with_file}
 use Rattle.flat_pages.specs.FileSteps.{AreFewerFiled, FileHas, IsFiled}
-use Rattle.flat_tables.specs.SlotTouches.{home_named}
 use Rattle.flat_pages.proofs.Agreement.{tables_whole}
 use Rattle.flat_pages.proofs.EmptyMaps.{core_on}
 use Rattle.flat_pages.proofs.EntrySetting.{same_core}
-use Rattle.flat_pages.proofs.FileEnds.{fewer_filed, fewer_itself, fewer_on, fewer_without}
-use Rattle.flat_tables.proofs.FiledHomes.{get_filed}
-use Rattle.flat_pages.proofs.Telling.{named_home}
-use Rattle.flat_pages.proofs.Touching.{home_is}
-use Rattle.pager_walk.specs.MapPages.{index_of, root_at}
-use Rattle.pager_walk.specs.PagedMaps.{name_at, name_of, nobody}
+use Rattle.flat_pages.proofs.FileEnds.{fewer_filed, fewer_itself, fewer_on}
 use Rattle.paged_tables.specs.FiledSteps.{EmptiesFiled, PageStays, SetsFiled}
-use Rattle.paged_tables.specs.PagedSlots.{paged_slots}
-use Rattle.paged_tables.specs.PagedTables.{Beside, AreKept, FitsPages, in_memory_over, plain_over}
-use Rattle.paged_tables.proofs.FilingSteps.{some_name}
+use Rattle.paged_tables.specs.PagedTables.{Beside, AreKept, in_memory_over, plain_over}
 use Rattle.paged_tables.proofs.Homed.{sized}
 
 module _ {S : Type 0} (store : StoreMeaning S) (file : ℕ) where

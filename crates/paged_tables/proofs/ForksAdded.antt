@@ -1,30 +1,22 @@
 -- The map of a new fork names no page.
-use Rattle.std.proofs.Common.{◌≡◌, ℕ, zero, suc, ◌<◌, ◌≤◌, List, [], ◌∷◌, Option, Some, length, map, sym, ◌∙◌, ap, subst}
-use Rattle.std.specs.Option.{option_and_then, option_map, option_map_or}
-use Rattle.std.proofs.lemmas.List.{get_or-set_same}
+use Rattle.std.proofs.Common.{◌≡◌, ℕ, zero, suc, ◌≤◌, List, [], ◌∷◌, Option, Some, map, sym, ◌∙◌, ap, subst}
+use Rattle.std.specs.Option.{option_and_then, option_map_or}
 use Rattle.machine_names.specs.PageWords.{zero_words}
 use Rattle.machine_names.specs.declared.names.Access.{Access}
 use Rattle.machine_names.specs.declared.names.ForkName.{ForkName}
 use Rattle.machine_names.specs.declared.names.TheConstants.{LAST_SERIAL, SPACE_PAGES}
 use Rattle.page_homes.specs.declared.homes.Home.{Home}
-use Rattle.page_contracts.specs.Stores.{IsMade, StoreMeaning, free, here, place}
 use Rattle.share_table.specs.declared.pointer.Pointer.{Pointer}
 use Rattle.share_table.specs.declared.pointer.Pointer.TheVariants as pointer
 use Rattle.pager_walk.specs.declared.paged_entry.PagedEntry.{PagedEntry}
 use Rattle.pager_walk.specs.declared.paged_entry.PagedEntry.TheVariants as paged
-use Rattle.pager_walk.specs.declared.map_pages.MapPage.{MapPage}
 use Rattle.pager_walk.specs.Decoding.{pointer_in}
-use Rattle.pager_walk.specs.MapPages.{index_of, map_at, no_map, root_at}
 use Rattle.pager_walk.specs.NewPages.{following_words}
 use Rattle.pager_walk.specs.PagedMaps.{Tables, entry_for, entry_in}
 use Rattle.pager_walk.proofs.DecodedWords.{pointer_back}
-use Rattle.pager_walk.proofs.NumberedMaps.{index_is}
 use Rattle.flat_tables.specs.declared.held_entry.HeldEntry.TheVariants.{Empty}
 use Rattle.paged_tables.specs.AddedForks.{AreBareWords}
 use Rattle.paged_tables.specs.MapsInMemory.{entry_held, in_memory}
-use Rattle.paged_tables.specs.PagedMeaning.{with_fork}
-use Rattle.paged_tables.specs.PagedSlots.{map_home_over}
-use Rattle.paged_tables.specs.PagedTables.{Beside, AreKept}
 use Rattle.paged_tables.proofs.NewForks.{AreBare, IsBare, bare_followers, bare_none, empty_entries, following_entries}
 
 -- the word 0 is that of an empty entry

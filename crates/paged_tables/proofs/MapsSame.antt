@@ -1,5 +1,5 @@
 -- Where the maps are as they were, the same forks live.
-use Rattle.std.proofs.Common.{◌≡◌, List, false, is_some, nat_eq}
+use Rattle.std.proofs.Common.{◌≡◌, false, is_some, nat_eq}
 use Rattle.std.specs.Prelude.{count_by}
 use Rattle.std.specs.Option.{option_map, option_map_or}
 use Rattle.pager_walk.specs.declared.map_pages.MapPage.{MapPage}

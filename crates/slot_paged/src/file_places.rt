@@ -12,7 +12,6 @@ impl<S: Store> SlotPaged<S> {
     ghost use Rattle.machine_names.specs.Bounds.{IsFilePage};
     ghost use Rattle.machine_names.specs.Orders.{file_page};
     ghost use Rattle.slot_paged.specs.Slots.{slots};
-    ghost use Rattle.paged_tables.specs.PagedTables.{beside_of};
 
     /// The page that a file names at one of its pages; it may be in no frame. None exactly where the file has
     /// no such page.

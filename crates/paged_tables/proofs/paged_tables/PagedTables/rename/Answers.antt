@@ -1,4 +1,3 @@
-use Rattle.std.proofs.Common.{◌<◌, length, sym, subst}
 use Rattle.pager_walk.specs.PagedMaps.{tables_of, with_name}
 use Rattle.paged_tables.specs.declared.paged_tables.PagedTables.{PagedTables}
 use Rattle.paged_tables.specs.PagedTables.{beside_of}

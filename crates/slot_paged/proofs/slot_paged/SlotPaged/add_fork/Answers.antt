@@ -1,4 +1,4 @@
-use Rattle.std.proofs.Common.{◌<◌, arith, length, sym, subst}
+use Rattle.std.proofs.Common.{arith, sym, subst}
 use Rattle.paged_tables.specs.AddedForks.{AddsFork}
 use Rattle.paged_tables.specs.PagedTables.{beside_of}
 use Rattle.paged_tables.proofs.ForksAdded.{following_bare, zero_bare}

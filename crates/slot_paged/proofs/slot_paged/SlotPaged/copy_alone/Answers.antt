@@ -1,4 +1,4 @@
-use Rattle.std.proofs.Common.{◌≡◌, ◌∙◌, ◌<◌, List, Some, is_some, length, map, sym, ap, subst}
+use Rattle.std.proofs.Common.{◌≡◌, ◌∙◌, List, Some, is_some, map, sym, ap, subst}
 use Rattle.std.specs.Prelude.{IsSome, slice_set}
 use Rattle.page_contracts.specs.Stores.{HomePlace, IsUsed, is_taken, place, with_word_in}
 use Rattle.share_table.specs.declared.pointer.Pointer.{Pointer}
@@ -6,9 +6,8 @@ use Rattle.share_table.specs.Pointers.{IsPointer, pointer_word}
 use Rattle.flat_tables.specs.TableSteps.{next_name}
 use Rattle.pager_walk.specs.declared.paged_entry.PagedEntry.TheVariants.{Page}
 use Rattle.pager_walk.specs.MapPages.{index_of, root_at}
-use Rattle.pager_walk.specs.PagedMaps.{Tables, AreRooted, FitsMaps, entry_for, tables_of, with_name}
+use Rattle.pager_walk.specs.PagedMaps.{Tables, AreRooted, FitsMaps, entry_for, with_name}
 use Rattle.pager_walk.proofs.Changing.{taken_still}
-use Rattle.paged_tables.specs.declared.paged_tables.PagedTables.{PagedTables}
 use Rattle.paged_tables.specs.MadePages.{page_renamed, pointer_to}
 use Rattle.paged_tables.specs.PagedTables.{Beside, AreKept, beside_of}
 use Rattle.paged_tables.proofs.Moved.{kept_moved}

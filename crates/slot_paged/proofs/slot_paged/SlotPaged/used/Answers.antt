@@ -1,8 +1,7 @@
-use Rattle.std.proofs.Common.{◌<◌, ◌/◌, List, refl, sym, ap, subst, arith}
+use Rattle.std.proofs.Common.{◌<◌, ◌/◌, List, refl, sym, subst, arith}
 use Rattle.page_contracts.proofs.Losing.{loses_used}
 use Rattle.page_contracts.specs.Stores.{HomePlace}
 use Rattle.flat_pages.proofs.HandedOn.{used_within}
-use Rattle.paged_tables.specs.KnownPages.{known_over}
 use Rattle.paged_tables.specs.PagedTables.{AreKept, beside_of}
 use Rattle.paged_tables.proofs.AskedOfStore.{only_uses}
 use Rattle.paged_tables.proofs.Placed.{placed}
