@@ -18,7 +18,7 @@ command -v valgrind >/dev/null || {
 }
 
 below='word36 outside page_homes machine_names plain_pages plain_files number_set number_map tournament frame_order page_files'
-pages='drum_queue frame_table share_table page_contracts page_residence paged_store flat_tables flat_pages pager_walk slot_paged known_slots'
+pages='drum_queue frame_table share_table page_contracts page_residence paged_store flat_tables flat_pages pager_walk paged_tables slot_paged known_slots'
 speed=$work/crates/page_speed
 mkdir -p "$speed/src" "$speed/proofs/is_away" "$speed/proofs/complete" "$speed/proofs/look" "$speed/proofs/paged"
 for crate in $below $pages; do
@@ -26,7 +26,7 @@ for crate in $below $pages; do
     find "$top/crates/$crate" -mindepth 1 -maxdepth 1 ! -name out -exec cp -r -t "$work/crates/$crate" {} +
     grep "^$crate:" "$top/crates.txt" >>"$work/crates.txt"
 done
-echo 'page_speed: outside page_homes machine_names plain_pages page_contracts paged_store flat_pages slot_paged known_slots' >>"$work/crates.txt"
+echo 'page_speed: outside page_homes machine_names plain_pages page_contracts paged_store flat_pages paged_tables slot_paged known_slots' >>"$work/crates.txt"
 printf 'Handles allowed: none.\n' >"$work/HANDLES"
 
 cat >"$speed/src/main.rt" <<'PROGRAM'
@@ -365,8 +365,8 @@ PROOF
 cat >"$speed/proofs/paged/Answers.antt" <<'PROOF'
 use Rattle.std.proofs.Common.{◌∙◌, arith}
 use Rattle.machine_names.specs.declared.names.Tty.{Tty}
-use Rattle.slot_paged.specs.PagedMeaning.{forks_in}
-use Rattle.slot_paged.specs.PagedTables.{beside_of}
+use Rattle.paged_tables.specs.PagedMeaning.{forks_in}
+use Rattle.paged_tables.specs.PagedTables.{beside_of}
 use Rattle.page_speed.proofs.paged.Goals as goal
 
 pub looked-requires-clause-few : goal.looked-requires-clause-few

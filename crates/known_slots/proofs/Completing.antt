@@ -24,6 +24,8 @@ completed_within store part faults reads writes pages result p q drum drum' back
   later = c.later;
   read = c.read;
   wrote = c.wrote;
+  reads_later = c.reads_later;
+  writes_later = c.writes_later;
   failed = λ is. (let s = c.failed is in record { there = stays_within store part p q s.there; queued = record { queue = s.queued.queue; untold = s.queued.untold }; holds = s.holds });
   uncounted = c.uncounted;
   size = c.size;

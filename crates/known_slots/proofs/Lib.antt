@@ -1,7 +1,12 @@
+pub mod ForksLeft
 pub mod WithinPages
 pub mod PlacesUsed
+pub mod AwayHomes
 pub mod PlacesKept
+pub mod PagesSettled
+pub mod FilesDropped
 pub mod OtherMaps
 pub mod MapsAdded
 pub mod MapsDropped
+pub mod ForksDropped
 pub mod Completing

@@ -10,13 +10,16 @@ use Rattle.machine_names.specs.declared.names.PageName.{PageName}
 use Rattle.machine_names.specs.declared.names.Slot.{Slot}
 use Rattle.page_homes.specs.declared.homes.Home.{Home}
 use Rattle.page_contracts.specs.declared.answers.Seen.TheVariants as seen
+use Rattle.page_contracts.specs.Changes.{ForkAdded}
 use Rattle.page_contracts.specs.Pages.{AddsMap, TakesMap}
 use Rattle.page_contracts.specs.Stores.{HomePlace, Loses, RenewsNone, RenewsOne, StoreMeaning, away_at, away_home, free, here, place, traffic, word_in}
 use Rattle.page_contracts.proofs.Losing.{loses_made, made_one}
 use Rattle.plain_pages.specs.declared.map.MapEntry.TheVariants.{Names}
+use Rattle.plain_pages.specs.declared.map.NewMap.{NewMap}
 use Rattle.share_table.specs.declared.pointer.Pointer.{Pointer}
 use Rattle.share_table.specs.declared.pointer.Pointer.TheVariants as pointer
-use Rattle.flat_pages.specs.SlotTouches.{home_named}
+use Rattle.flat_tables.specs.Serials.{serial_of}
+use Rattle.flat_tables.specs.SlotTouches.{home_named}
 use Rattle.pager_walk.specs.declared.map_pages.MapPage.{MapPage}
 use Rattle.pager_walk.specs.declared.paged_entry.Looked.TheVariants.{Is, Refused}
 use Rattle.pager_walk.specs.declared.paged_entry.PagedEntry.{PagedEntry}
@@ -26,11 +29,13 @@ use Rattle.pager_walk.specs.MapPages.{fork_at, index_of, map_at, no_map, root_at
 use Rattle.pager_walk.specs.PagedMaps.{Tables, entry_for, entry_in, look_at, look_word, map_away, seen_for}
 use Rattle.pager_walk.proofs.Looking.{look_there}
 use Rattle.pager_walk.proofs.NumberedMaps.{Once, fork_tells, index_is}
-use Rattle.slot_paged.specs.AddedForks.{AddsFork}
-use Rattle.slot_paged.specs.PagedSlots.{filed_over, map_home_over, paged_slots}
-use Rattle.slot_paged.specs.PagedTables.{Beside, AreKept}
-use Rattle.slot_paged.specs.PagedTouches.{scene_over}
-use Rattle.slot_paged.proofs.StillScenes.{away_made}
+use Rattle.paged_tables.specs.AddedForks.{AddsFork, new_words}
+use Rattle.paged_tables.specs.PagedMeaning.{forks_in, lives_in}
+use Rattle.paged_tables.specs.PagedSlots.{filed_over, map_home_over, paged_slots}
+use Rattle.paged_tables.specs.PagedTables.{Beside, AreKept}
+use Rattle.paged_tables.specs.PagedTouches.{scene_over}
+use Rattle.paged_tables.proofs.NewForks.{fork_lives, forks_more, forks_others}
+use Rattle.paged_tables.proofs.StillScenes.{away_made}
 use Rattle.known_slots.proofs.OtherMaps.{other_away, other_home}
 
 -- a word stands for the same entry whatever the maps
@@ -54,7 +59,7 @@ shown_page t (Some Empty) n a e = absurd (cc e)
 shown_page t (Some (Page h c)) n a e = (h, c, refl)
 shown_page t (Some (Follows serial page c)) n a e = absurd (cc e)
 
-module _ {S : Type 0} (store : StoreMeaning S) (old new : S) (b b' : Beside) (fork : ForkName) (kept' : AreKept b' (store.homes new)) (a : AddsFork store old new b b' fork) where
+module _ {S : Type 0} (store : StoreMeaning S) (old new : S) (b b' : Beside) (fork : ForkName) (map : NewMap) (kept' : AreKept b' (store.homes new)) (a : AddsFork store old new b b' fork map) where
   abbrev places : List HomePlace
   places = store.homes old
 
@@ -89,12 +94,12 @@ module _ {S : Type 0} (store : StoreMeaning S) (old new : S) (b b' : Beside) (fo
   not_own g ne e = ne (let same : fork ≡ g = cc e in sym same)
 
   away_same : ◌≡◌ {A = ℕ → Option ℕ} (away_at places') (away_at places)
-  away_same = fun_ext (λ k. ap (λ ps. away_at ps k) a.made.homes ∙ away_made places a.home.0 a.words k a.made.below a.made.was_free)
+  away_same = fun_ext (λ k. ap (λ ps. away_at ps k) a.made.homes ∙ away_made places a.home.0 (new_words map) k a.made.below a.made.was_free)
 
   own_near : map_away b'.tables places' fork ≡ None
   own_near =
       ap (option_and_then (λ k. away_at places' (root_at b'.tables.maps k).0)) numbered ∙ ap (λ (h : Home). away_at places' h.0) root
-      ∙ ap (λ ps. away_at ps a.home.0) a.made.homes ∙ ap (λ p. away_home p a.home.0) (get_or-set_same places a.home.0 (here a.words) free a.made.below)
+      ∙ ap (λ ps. away_at ps a.home.0) a.made.homes ∙ ap (λ p. away_home p a.home.0) (get_or-set_same places a.home.0 (here (new_words map)) free a.made.below)
 
   map_same : (g : ForkName) → map_away b'.tables places' g ≡ map_away b.tables places g
   map_same g = elim (fork_tells g fork) [
@@ -115,16 +120,16 @@ module _ {S : Type 0} (store : StoreMeaning S) (old new : S) (b b' : Beside) (fo
   }
 
   pub added_loses : Loses (traffic store old) (traffic store new)
-  added_loses = loses_made store old new a.home.0 (here a.words) a.made
+  added_loses = loses_made store old new a.home.0 (here (new_words map)) a.made
 
   pub added_uses : MatchOption (map_home_over b' fork) (RenewsNone (traffic store old) (traffic store new)) (λ home. RenewsOne home (traffic store old) (traffic store new))
-  added_uses = subst (λ (o : Option ℕ). MatchOption o (RenewsNone (traffic store old) (traffic store new)) (λ home. RenewsOne home (traffic store old) (traffic store new))) (sym own_home) (made_one store old new a.home.0 (here a.words) a.made)
+  added_uses = subst (λ (o : Option ℕ). MatchOption o (RenewsNone (traffic store old) (traffic store new)) (λ home. RenewsOne home (traffic store old) (traffic store new))) (sym own_home) (made_one store old new a.home.0 (here (new_words map)) a.made)
 
   shows_none : (page : ℕ) (n : PageName) (access : Access) → seen_for b'.tables (look_at b'.tables places' (record { fork = fork; page = page })) ≡ seen.Is (Names n access) → ⊥
   shows_none page n access is =
       let s : Slot = record { fork = fork; page = page } in
-      let w : ℕ = slice_index a.words page in
-      let there : place places' (root_at b'.tables.maps a.number).0 ≡ here a.words = ap (λ (h : Home). place places' h.0) root ∙ ap (λ ps. place ps a.home.0) a.made.homes ∙ get_or-set_same places a.home.0 (here a.words) free a.made.below in
+      let w : ℕ = slice_index (new_words map) page in
+      let there : place places' (root_at b'.tables.maps a.number).0 ≡ here (new_words map) = ap (λ (h : Home). place places' h.0) root ∙ ap (λ ps. place ps a.home.0) a.made.homes ∙ get_or-set_same places a.home.0 (here (new_words map)) free a.made.below in
       let looks : look_at b'.tables places' s ≡ option_map_or Is (entry_in b'.tables w) Refused =
       look_there b'.tables places' s a.number (root_at b'.tables.maps a.number) numbered refl ∙ ap (λ p. look_word b'.tables (root_at b'.tables.maps a.number) (word_in p page)) there in
       let found = shown_page b'.tables (entry_in b'.tables w) n access (sym (ap (seen_for b'.tables) looks) ∙ is) in
@@ -134,14 +139,32 @@ module _ {S : Type 0} (store : StoreMeaning S) (old new : S) (b b' : Beside) (fo
   home_same g ne = ap (λ ms. option_map (λ k. (root_at ms k).0) (index_of ms g)) maps ∙ other_home b.tables.maps a.number m a.below once g (unused g) (not_own g ne)
 
   place_same : (home : ℕ) → (map_home_over b' fork ≡ Some home → ⊥) → place places' home ≡ place places home
-  place_same home not = ap (λ ps. place ps home) a.made.homes ∙ get_or-set_other places a.home.0 home (here a.words) free (λ same. not (own_home ∙ ap Some (sym same)))
+  place_same home not = ap (λ ps. place ps home) a.made.homes ∙ get_or-set_other places a.home.0 home (here (new_words map)) free (λ same. not (own_home ∙ ap Some (sym same)))
 
-pub adds_map : {P S : Type 0} (store : StoreMeaning S) (part : P → S) (beside : P → Beside) (old new : P) (fork : ForkName) → AreKept (beside new) (store.homes (part new)) → AddsFork store (part old) (part new) (beside old) (beside new) fork
-    → AddsMap (paged_slots store part beside) fork old new
-adds_map store part beside old new fork kept' a = record {
-  homes = place_same store (part old) (part new) (beside old) (beside new) fork kept' a;
-  pages = λ i. home_named (names store (part old) (part new) (beside old) (beside new) fork kept' a i);
-  maps = home_same store (part old) (part new) (beside old) (beside new) fork kept' a;
-  names = λ n x. shows_none store (part old) (part new) (beside old) (beside new) fork kept' a x.page n x.access x.is;
-  filed = ap filed_over a.beside;
-}
+-- what is left once a fork was added
+module _ {P S : Type 0} (store : StoreMeaning S) (part : P → S) (beside : P → Beside) (old new : P) (fork : ForkName) (map : NewMap) (kept : AreKept (beside old) (store.homes (part old))) (kept' : AreKept (beside new) (store.homes (part new)))
+    (a : AddsFork store (part old) (part new) (beside old) (beside new) fork map) where
+  adds_map : AddsMap (paged_slots store part beside) fork old new
+  adds_map = record {
+    homes = place_same store (part old) (part new) (beside old) (beside new) fork map kept' a;
+    pages = λ i. home_named (names store (part old) (part new) (beside old) (beside new) fork map kept' a i);
+    maps = home_same store (part old) (part new) (beside old) (beside new) fork map kept' a;
+    names = λ n x. shows_none store (part old) (part new) (beside old) (beside new) fork map kept' a x.page n x.access x.is;
+    filed = ap filed_over a.beside;
+  }
+
+  pub fork_added : ForkAdded (paged_slots store part beside) fork map old new
+  fork_added =
+      let numbered = kept.rooted.numbered in
+      record {
+        told = a.told;
+        scene = takes_map store (part old) (part new) (beside old) (beside new) fork map kept' a;
+        loses = added_loses store (part old) (part new) (beside old) (beside new) fork map kept' a;
+        uses = added_uses store (part old) (part new) (beside old) (beside new) fork map kept' a;
+        adds = adds_map;
+        lives = λ f. ap (λ (x : Beside). lives_in x f) a.beside ∙ fork_lives (beside old) numbered a.number fork a.home a.below a.absent a.unused a.from a.last f;
+        forks = ap (λ (x : Beside). forks_in x fork.tty) a.beside ∙ forks_more (beside old) numbered a.number fork a.home a.below a.absent a.unused a.from a.last;
+        others = λ t ne. ap (λ (x : Beside). forks_in x t) a.beside ∙ forks_others (beside old) numbered a.number fork a.home a.below a.absent a.unused a.from a.last t ne;
+        serials = ap (λ (x : Beside). serial_of x.serials) a.beside;
+        most = ap (λ (x : Beside). x.limit) a.beside;
+      }

@@ -12,7 +12,7 @@ use Rattle.page_contracts.specs.declared.answers.Seen.TheVariants as seen
 use Rattle.page_contracts.specs.Pages.{DropsMap, IsOfMap, NamesPage}
 use Rattle.page_contracts.specs.Stores.{HomePlace, StoreMeaning, arrives, away_at, away_home, free, is_here, place}
 use Rattle.plain_pages.specs.declared.map.MapEntry.TheVariants.{Names}
-use Rattle.flat_pages.specs.SlotTouches.{home_named}
+use Rattle.flat_tables.specs.SlotTouches.{home_named}
 use Rattle.flat_pages.proofs.Telling.{named_home}
 use Rattle.pager_walk.specs.declared.map_pages.MapPage.{MapPage}
 use Rattle.pager_walk.specs.declared.paged_entry.Looked.{Looked}
@@ -20,16 +20,13 @@ use Rattle.pager_walk.specs.MapPages.{fork_at, index_of, root_at}
 use Rattle.pager_walk.specs.PagedMaps.{LookStands, map_away, name_at, nobody, seen_for}
 use Rattle.pager_walk.proofs.Looking.{root_taken, stands_at, taken_within}
 use Rattle.pager_walk.proofs.NumberedMaps.{Once, fork_within, index_fork}
-use Rattle.slot_paged.specs.FiledSteps.{PageStays}
-use Rattle.slot_paged.specs.FreedEntries.{EndsFork, MapHas}
-use Rattle.slot_paged.specs.PagedSlots.{filed_over, map_home_over, paged_slots}
-use Rattle.slot_paged.specs.PagedTables.{Beside, AreKept}
+use Rattle.paged_tables.specs.FiledSteps.{PageStays}
+use Rattle.paged_tables.specs.FreedEntries.{EndsFork, MapHas}
+use Rattle.paged_tables.specs.PagedSlots.{filed_over, map_home_over, paged_slots}
+use Rattle.paged_tables.specs.PagedTables.{Beside, AreKept}
+use Rattle.paged_tables.proofs.FilingSteps.{some_name}
 use Rattle.slot_paged.proofs.HousedPages.{named_is}
 use Rattle.known_slots.proofs.OtherMaps.{other_away, other_home}
-
-some_name : (o : Option PageName) → is_some o ≡ true → (n : PageName) × (o ≡ Some n)
-some_name None e = absurd (cc e)
-some_name (Some n) e = (n, refl)
 
 one_frame : (c : Bool) → ◌≤◌ (cond c 1 0) 1
 one_frame true = omega arith
@@ -64,23 +61,23 @@ module _ {P S : Type 0} (store : StoreMeaning S) (part : P → S) (beside : P �
   own = index_fork b.tables.maps fork number e.frees.numbered
 
   maps : b'.tables.maps ≡ slice_set b.tables.maps number gone
-  maps = ap (λ (x : Beside). x.tables.maps) e.beside ∙ (λ i. slice_set (e.same i) number (record { fork = None; home = root_at (e.same i) number }))
+  maps = ap (λ (x : Beside). x.tables.maps) e.beside ∙ (λ i. slice_set (e.empties.maps i) number (record { fork = None; home = root_at (e.empties.maps i) number }))
 
   once : Once (slice_set b.tables.maps number gone)
   once = subst Once maps kept'.rooted.numbered.once
 
   -- the map's home in between
   between_index : index_of e.between.tables.maps fork ≡ Some number
-  between_index = ap (λ ms. index_of ms fork) e.same ∙ e.frees.numbered
+  between_index = ap (λ ms. index_of ms fork) e.empties.maps ∙ e.frees.numbered
 
   between_root : (root_at e.between.tables.maps number).0 ≡ root
-  between_root = ap (λ ms. (root_at ms number).0) e.same
+  between_root = ap (λ ms. (root_at ms number).0) e.empties.maps
 
   within : root < length middle
   within = subst (λ (h : ℕ). h < length middle) between_root (taken_within middle (root_at e.between.tables.maps number).0 (root_taken e.between.tables middle e.kept.rooted fork number between_index))
 
   unnamed : name_at e.between.tables.names root ≡ None
-  unnamed = ap (name_at e.between.tables.names) (sym between_root) ∙ e.kept.rooted.unnamed number fork (ap (λ ms. fork_at ms number) e.same ∙ own)
+  unnamed = ap (name_at e.between.tables.names) (sym between_root) ∙ e.kept.rooted.unnamed number fork (ap (λ ms. fork_at ms number) e.empties.maps ∙ own)
 
   names : b'.tables.names ≡ e.between.tables.names
   names = ap (λ (x : Beside). x.tables.names) e.beside
@@ -152,7 +149,7 @@ module _ {P S : Type 0} (store : StoreMeaning S) (part : P → S) (beside : P �
   away_same g ne =
       ap (λ ms. option_and_then (λ k. away_at places' (root_at ms k).0) (index_of ms g)) maps
       ∙ other_away b.tables.maps number gone below once g (not_own g ne) (no_fork g) middle places' (λ j is. ap (λ p. away_home p (root_at b.tables.maps j).0) (other_place (root_at b.tables.maps j).0 (apart j is)))
-      ∙ ap (λ ms. option_and_then (λ k. away_at middle (root_at ms k).0) (index_of ms g)) (sym e.same) ∙ ap (λ (f : ForkName → Option ℕ). f g) e.frees.away
+      ∙ ap (λ ms. option_and_then (λ k. away_at middle (root_at ms k).0) (index_of ms g)) (sym e.empties.maps) ∙ ap (λ (f : ForkName → Option ℕ). f g) e.frees.away
     where
       apart : (j : ℕ) → index_of b.tables.maps g ≡ Some j → (root_at b.tables.maps j).0 ≢ root
       apart j is same =

@@ -8,12 +8,15 @@ use Rattle.machine_names.specs.declared.names.Slot.{Slot}
 use Rattle.machine_names.specs.Orders.{FilePage}
 use Rattle.page_homes.specs.declared.homes.Home.{Home}
 use Rattle.page_contracts.specs.declared.answers.Seen.TheVariants as seen
+use Rattle.page_contracts.specs.Changes.{EntrySet}
 use Rattle.page_contracts.specs.Pages.{EntryNames, IsPlace, SetsEntry, SetsFile, SettlesHome, StandsAt, WordSet}
 use Rattle.page_contracts.specs.Stores.{HomePlace, IsSound, StoreMeaning, away, free, here, is_here, is_taken, place}
 use Rattle.plain_pages.specs.declared.map.MapEntry.TheVariants.{Names}
+use Rattle.plain_pages.specs.declared.map.NewEntry.{NewEntry}
 use Rattle.flat_pages.specs.FileSteps.{IsFiled}
-use Rattle.flat_pages.specs.SlotTouches.{home_named}
-use Rattle.flat_pages.proofs.FiledHomes.{get_filed}
+use Rattle.flat_tables.specs.Serials.{serial_of}
+use Rattle.flat_tables.specs.SlotTouches.{home_named}
+use Rattle.flat_tables.proofs.FiledHomes.{get_filed}
 use Rattle.flat_pages.proofs.Telling.{named_home}
 use Rattle.pager_walk.specs.declared.map_pages.MapPage.{MapPage}
 use Rattle.pager_walk.specs.declared.paged_entry.Looked.{Looked}
@@ -21,20 +24,19 @@ use Rattle.pager_walk.specs.MapPages.{index_of, root_at}
 use Rattle.pager_walk.specs.PagedMaps.{LookStands, name_at, name_of, nobody, seen_for}
 use Rattle.pager_walk.proofs.Looking.{stands_at}
 use Rattle.pager_walk.proofs.NumberedMaps.{index_fork}
-use Rattle.slot_paged.specs.declared.page_home.PageHome.TheVariants.{At}
-use Rattle.slot_paged.specs.FiledSteps.{PageStays}
-use Rattle.slot_paged.specs.FreedEntries.{KeepsHomes, NamesHome}
-use Rattle.slot_paged.specs.PageHomes.{homed_over}
-use Rattle.slot_paged.specs.PagedMeaning.{lives_in}
-use Rattle.slot_paged.specs.PagedSlots.{filed_over, map_home_over, paged_slots}
-use Rattle.slot_paged.specs.PagedTables.{Beside, AreKept}
-use Rattle.slot_paged.specs.PlacesSettled.{KeepsPages}
+use Rattle.paged_tables.specs.declared.page_home.PageHome.TheVariants.{At}
+use Rattle.paged_tables.specs.FiledSteps.{PageStays}
+use Rattle.paged_tables.specs.FreedEntries.{KeepsHomes, NamesHome}
+use Rattle.paged_tables.specs.PageHomes.{homed_over}
+use Rattle.paged_tables.specs.PagedMeaning.{lives_in}
+use Rattle.paged_tables.specs.PagedSlots.{filed_over, map_home_over, paged_slots}
+use Rattle.paged_tables.specs.PagedTables.{Beside, AreKept}
+use Rattle.paged_tables.specs.PlacesSettled.{KeepsPages}
+use Rattle.paged_tables.specs.SetEntries.{ChangesEntry}
+use Rattle.paged_tables.proofs.FilingSteps.{some_name}
+use Rattle.paged_tables.proofs.MapsSame.{homes_same}
 use Rattle.slot_paged.proofs.HousedPages.{named_is}
 use Rattle.known_slots.proofs.PlacesUsed.{stands_at as place_stands}
-
-some_name : (o : Option PageName) → is_some o ≡ true → (n : PageName) × (o ≡ Some n)
-some_name None e = absurd (cc e)
-some_name (Some n) e = (n, refl)
 
 module _ {P S : Type 0} (store : StoreMeaning S) (part : P → S) (beside : P → Beside) (old new : P) (kept : AreKept (beside old) (store.homes (part old))) (kept' : AreKept (beside new) (store.homes (part new))) (maps : (beside new).tables.maps ≡ (beside old).tables.maps) where
   abbrev b : Beside
@@ -49,8 +51,8 @@ module _ {P S : Type 0} (store : StoreMeaning S) (part : P → S) (beside : P �
   abbrev places' : List HomePlace
   places' = store.homes (part new)
 
-  maps_same : map_home_over b' ≡ map_home_over b
-  maps_same = λ i f. option_map (λ k. (root_at (maps i) k).0) (index_of (maps i) f)
+  pub maps_same : map_home_over b' ≡ map_home_over b
+  maps_same = homes_same b b' maps
 
   -- each page has its home, or went, where its home was given up
   module _ (named : ℕ → Type 0) (names : PageName → Type 0) (lift : (home : ℕ) (n : PageName) → name_at b.tables.names home ≡ Some n → named home → names n)
@@ -63,7 +65,7 @@ module _ {P S : Type 0} (store : StoreMeaning S) (part : P → S) (beside : P �
     went home n is none (inl same) = absurd (let z : None ≡ Some home = sym none ∙ named_is b' places' kept' home n (same.1 ∙ is) in cc z)
     went home n is none (inr given) = lift home n is given.2
 
-    pages_stay : (n : PageName) → (home_named b'.tables.names n ≡ home_named b.tables.names n) ⊎ ((home_named b'.tables.names n ≡ None) × names n)
+    pub pages_stay : (n : PageName) → (home_named b'.tables.names n ≡ home_named b.tables.names n) ⊎ ((home_named b'.tables.names n ≡ None) × names n)
     pages_stay n = by (home_named b.tables.names n) (home_named b'.tables.names n) refl refl
       where
         by : (o o' : Option ℕ) → home_named b.tables.names n ≡ o → home_named b'.tables.names n ≡ o' → (home_named b'.tables.names n ≡ home_named b.tables.names n) ⊎ ((home_named b'.tables.names n ≡ None) × names n)
@@ -110,6 +112,20 @@ module _ {P S : Type 0} (store : StoreMeaning S) (part : P → S) (beside : P �
           subst (λ (k : ℕ). WordSet (place places k) (place places' k)) same (record { at = slot.page; word = z.word; is = z.map }));
       pages = pages_stay (NamesHome b places slot) (EntryNames (paged_slots store part beside) old slot) entry_page (λ home some. z.homes home (not_root home some));
       maps = maps_same;
+    }
+
+    pub entry_set : (entry : NewEntry) → ChangesEntry store (part old) (part new) b b' slot entry → EntrySet (paged_slots store part beside) slot entry old new
+    entry_set entry c = record {
+      told = c.told;
+      scene = c.core;
+      filed = c.filed;
+      loses = c.lost;
+      uses = c.uses;
+      sets = sets_entry;
+      lives = c.lives;
+      forks = c.forks;
+      serials = ap serial_of c.serials;
+      most = c.most;
     }
 
   -- a page of a file was set

@@ -7,29 +7,29 @@ use Rattle.machine_names.specs.declared.names.Kind.{Kind}
 use Rattle.machine_names.specs.declared.names.Place.{Place}
 use Rattle.machine_names.specs.declared.names.Place.TheVariants.{Fork, File}
 use Rattle.machine_names.specs.declared.names.Slot.{Slot}
-use Rattle.machine_names.specs.Orders.{file_page}
+use Rattle.machine_names.specs.Orders.{FilePage, file_page}
 use Rattle.page_homes.specs.declared.homes.Home.{Home}
 use Rattle.page_contracts.specs.declared.answers.Found.{Found}
 use Rattle.page_contracts.specs.declared.answers.SpaceHandle.{SpaceHandle}
-use Rattle.page_contracts.specs.Pages.{IsPlace, StandsAt, StandsInSpace, UsesPlace}
+use Rattle.page_contracts.specs.Pages.{IsPlace, StandsAt, StandsInFile, StandsInSpace, UsesPlace}
 use Rattle.page_contracts.specs.Stores.{HomePlace, IsSound, StoreMeaning, is_here, place}
 use Rattle.pager_walk.specs.declared.chain_walk.Walked.{Walked}
 use Rattle.pager_walk.specs.declared.chain_walk.Walked.TheVariants.{Along, Absent, NoChain}
 use Rattle.pager_walk.specs.MapPages.{index_of}
 use Rattle.pager_walk.specs.PagedMaps.{name_at, name_of}
 use Rattle.pager_walk.specs.Walks.{walk_at}
-use Rattle.flat_pages.proofs.FiledHomes.{get_filed}
-use Rattle.slot_paged.specs.declared.known_page.KnownPage.{KnownPage}
-use Rattle.slot_paged.specs.declared.page_home.PageHome.TheVariants.{At}
-use Rattle.slot_paged.specs.KnownPages.{found_known, known_along, known_page}
-use Rattle.slot_paged.specs.PageHomes.{homed, homed_along, homed_over}
-use Rattle.slot_paged.specs.PagedMeaning.{lives_in}
-use Rattle.slot_paged.specs.PagedSlots.{map_home_over, paged_slots, space_over}
-use Rattle.slot_paged.specs.PagedTables.{Beside, AreKept}
-use Rattle.slot_paged.specs.PlacesSettled.{UsesPlace as PlaceUsed}
+use Rattle.flat_tables.proofs.FiledHomes.{get_filed}
+use Rattle.paged_tables.specs.declared.known_page.KnownPage.{KnownPage}
+use Rattle.paged_tables.specs.declared.page_home.PageHome.TheVariants.{At}
+use Rattle.paged_tables.specs.KnownPages.{found_known, known_along, known_page}
+use Rattle.paged_tables.specs.PageHomes.{homed, homed_along, homed_over}
+use Rattle.paged_tables.specs.PagedMeaning.{lives_in}
+use Rattle.paged_tables.specs.PagedSlots.{map_home_over, paged_slots, space_over}
+use Rattle.paged_tables.specs.PagedTables.{Beside, AreKept}
+use Rattle.paged_tables.specs.PlacesSettled.{UsesPlace as PlaceUsed}
 use Rattle.slot_paged.proofs.HousedPages.{named_is, some_named}
-use Rattle.slot_paged.proofs.KnownTouches.{known_is}
-use Rattle.slot_paged.proofs.Placed.{placed}
+use Rattle.paged_tables.proofs.KnownTouches.{known_is}
+use Rattle.paged_tables.proofs.Placed.{placed}
 
 -- the page at the end of a chain is known
 known_at : (w : Walked) (h : Home) → homed_along w ≡ At h → (k : KnownPage) × (known_along w ≡ Some k) × (k.home ≡ h)
@@ -56,6 +56,16 @@ space_there b f lives = by (index_of b.tables.maps f) lives
     by None e = absurd (cc e)
     by (Some k) e = (record { 0 = k }, refl)
 
+-- the page of a home that a file names stands there
+pub stands_in_file : {P S : Type 0} (store : StoreMeaning S) (part : P → S) (beside : P → Beside) (p : P) → AreKept (beside p) (store.homes (part p)) → (f : FilePage ℕ) (h : Home) → fin.get (beside p).files f ≡ Some h → StandsInFile (paged_slots store part beside) p f h.0
+stands_in_file store part beside p kept f h filed =
+    let b = beside p in
+    record {
+      name = name_of b.tables.names h;
+      named = get_filed b.tables.names b.files f ∙ ap (option_map (name_of b.tables.names)) filed;
+      there = named_is b (store.homes (part p)) kept h.0 (name_of b.tables.names h) (some_named b (store.homes (part p)) kept h.0 (name_of b.tables.names h) (name_at b.tables.names h.0) refl (kept.filed f h filed) refl);
+    }
+
 module _ {P S : Type 0} (store : StoreMeaning S) (part : P → S) (beside : P → Beside) (p : P) (kept : AreKept (beside p) (store.homes (part p))) (sound : IsSound store (part p)) where
   abbrev b : Beside
   b = beside p
@@ -79,13 +89,7 @@ module _ {P S : Type 0} (store : StoreMeaning S) (part : P → S) (beside : P �
   -- the page of a place that a frame has stands at its home
   pub stands_at : (at : Place) (h : Home) → IsPlace (lives_in b) at → homed_over b places at ≡ At h → is_here (place places h.0) ≡ true → StandsAt (paged_slots store part beside) p at h.0
   stands_at (Fork s) h there is in_frame = stands_in_space s h there is in_frame
-  stands_at (File f page) h there is in_frame =
-      let filed : fin.get b.files (file_page f.0 page) ≡ Some h = file_home (fin.get b.files (file_page f.0 page)) h is in
-      record {
-        name = name_of b.tables.names h;
-        named = get_filed b.tables.names b.files (file_page f.0 page) ∙ ap (option_map (name_of b.tables.names)) filed;
-        there = named_is b places kept h.0 (name_of b.tables.names h) (some_named b places kept h.0 (name_of b.tables.names h) (name_at b.tables.names h.0) refl (kept.filed (file_page f.0 page) h filed) refl);
-      }
+  stands_at (File f page) h there is in_frame = stands_in_file store part beside p kept (file_page f.0 page) h (file_home (fin.get b.files (file_page f.0 page)) h is)
 
   -- and at no other
   pub home_at : (at : Place) (home : ℕ) → IsPlace (lives_in b) at → StandsAt (paged_slots store part beside) p at home → (h : Home) × (homed_over b places at ≡ At h) × (h.0 ≡ home)

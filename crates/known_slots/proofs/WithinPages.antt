@@ -1,12 +1,12 @@
 -- What is told of pages is told of what has them.
-use Rattle.std.proofs.Common.{inl, inr, ℕ}
-use Rattle.machine_names.specs.declared.names.PageName.{PageName}
+use Rattle.std.proofs.Common.{◌≡◌, ℕ, refl, sym, subst}
 use Rattle.page_contracts.specs.Stores.{IsUsed, StoreMeaning}
-use Rattle.page_contracts.specs.Pages.{DropsFile, FileNames, HasSpace, OnlyUses, StaysPut}
+use Rattle.page_contracts.specs.Pages.{HasSpace, OnlyUses, StaysAlike, StaysPut}
 use Rattle.page_contracts.specs.declared.answers.SpaceHandle.{SpaceHandle}
 use Rattle.flat_pages.specs.SlotMeaning.{within}
-use Rattle.slot_paged.specs.PagedSlots.{paged_slots}
-use Rattle.slot_paged.specs.PagedTables.{Beside}
+use Rattle.paged_tables.specs.PagedSlots.{paged_slots}
+use Rattle.pager_walk.specs.PagedMaps.{look_at, seen_for}
+use Rattle.paged_tables.specs.PagedTables.{Beside, FitsPages, plain_over}
 
 module _ {Q P S : Type 0} (store : StoreMeaning S) (part : P → S) (beside : P → Beside) (pages : Q → P) where
   pub put_within : (p q : Q) → StaysPut (paged_slots store part beside) (pages p) (pages q) → StaysPut (paged_slots store (λ r. part (pages r)) (λ r. beside (pages r))) p q
@@ -36,19 +36,28 @@ module _ {Q P S : Type 0} (store : StoreMeaning S) (part : P → S) (beside : P 
     ages = u.ages;
   }
 
-  names_within : (p : Q) (file : ℕ) (n : PageName) → FileNames (paged_slots store part beside) (pages p) file n → FileNames (paged_slots store (λ r. part (pages r)) (λ r. beside (pages r))) p file n
-  names_within p file n f = record { page = f.page; is = f.is }
-
-  pub drops_within : (file : ℕ) (p q : Q) → DropsFile (paged_slots store part beside) file (pages p) (pages q) → DropsFile (paged_slots store (λ r. part (pages r)) (λ r. beside (pages r))) file p q
-  drops_within file p q d = record {
-    homes = λ home. elim (d.homes home) [ inl same ↦ inl same | inr given ↦ inr (given.0, (given.1.0, given.1.1, names_within p file given.1.0 given.1.2)) ];
-    pages = λ n. elim (d.pages n) [ inl same ↦ inl same | inr went ↦ inr (went.0, names_within p file n went.1) ];
-    maps = d.maps;
-    away = d.away;
-    frames = λ none. d.frames (λ n f. none n (names_within p file n f));
-    gone = d.gone;
-    filed = d.filed;
-  }
-
   pub space_within : (p : Q) (space : SpaceHandle) → HasSpace (paged_slots store (λ r. part (pages r)) (λ r. beside (pages r))) p space → HasSpace (paged_slots store part beside) (pages p) space
   space_within p space h = record { fork = h.fork; is = h.is }
+
+  -- what has the same pages is alike
+  pub alike_within : (p q : Q) → pages q ≡ pages p → StaysAlike (paged_slots store (λ r. part (pages r)) (λ r. beside (pages r))) p q
+  alike_within p q same = record {
+    fits = λ d. (subst (λ (x : P). FitsPages (beside x) (store.homes (part x)) d) (sym same), subst (λ (x : P). FitsPages (beside x) (store.homes (part x)) d) same);
+    plain = λ i. plain_over (beside (same i)) (store.homes (part (same i)));
+    put = put_within p q (subst (StaysPut (paged_slots store part beside) (pages p)) (sym same) put_still);
+    seen = λ i s. seen_for (beside (same i)).tables (look_at (beside (same i)).tables (store.homes (part (same i))) s);
+    stored = record {
+      there = record {
+        homes = λ i. store.homes (part (same i));
+        framed = record { frames = λ i. store.frames (part (same i)); spare = λ i. store.spare (part (same i)); found = λ i. store.found (part (same i)); tenant = λ i. store.tenant (part (same i)); members = λ i. store.members (part (same i)) };
+        ages = λ i. store.age (part (same i));
+        uses = λ i. store.uses (part (same i));
+      };
+      queued = record { queue = λ i. store.queue (part (same i)); untold = λ i. store.untold (part (same i)) };
+      holds = λ i. store.holds (part (same i));
+    };
+    victim = λ i. store.victim (part (same i));
+  }
+    where
+      put_still : StaysPut (paged_slots store part beside) (pages p) (pages p)
+      put_still = record { touched = refl; scene = refl; space = refl; place = refl; filed = refl; map_homes = refl; page_homes = refl; lives = refl; forks = refl; serials = refl; count = refl; most = refl }

@@ -2,10 +2,10 @@
 use Rattle.std.specs.Prelude.{◌≡◌, ℕ, ◌<◌, List, Some}
 use Rattle.machine_names.specs.declared.names.TheConstants.{SPACE_PAGES}
 use Rattle.page_contracts.specs.Stores.{HomePlace}
-use Rattle.slot_paged.specs.declared.known_page.KnownPage.{KnownPage}
+use Rattle.paged_tables.specs.declared.known_page.KnownPage.{KnownPage}
 use Rattle.known_slots.specs.declared.known_walks.KnownWalks.{KnownWalks}
-use Rattle.slot_paged.specs.KnownPages.{known_over}
-use Rattle.slot_paged.specs.PagedTables.{Beside}
+use Rattle.paged_tables.specs.KnownPages.{known_over}
+use Rattle.paged_tables.specs.PagedTables.{Beside}
 use Rattle.known_slots.specs.WalkTimes.{known_rows}
 
 -- a walk from a page of a space would come to what is known of it

@@ -1,2 +1,3 @@
 pub mod WalkTimes
 pub mod KnownNow
+pub mod Slots

@@ -1,7 +1,7 @@
 -- What is known of walks, and since when.
 use Rattle.std.specs.Prelude.{ℕ, ◌+◌, ◌*◌, ◌-◌, ◌^◌, ◌<◌, ◌≤◌, List, false, Option, None, Some, if◌then◌else◌, ◌==◌, slice_index_or}
 use Rattle.machine_names.specs.declared.names.TheConstants.{SPACE_PAGES}
-use Rattle.slot_paged.specs.declared.known_page.KnownPage.{KnownPage}
+use Rattle.paged_tables.specs.declared.known_page.KnownPage.{KnownPage}
 use Rattle.known_slots.specs.declared.known_walks.KnownRow.{KnownRow}
 
 -- of a page to which no walk led yet

@@ -1,7 +1,7 @@
 // Pages of forks and of files, with what is known of walks.
 ghost use Rattle.std.specs.Prelude.{◌≡◌};
 ghost use Rattle.known_slots.specs.KnownNow.{AreKnown};
-ghost use Rattle.slot_paged.specs.PagedTables.{beside_of};
+ghost use Rattle.paged_tables.specs.PagedTables.{beside_of};
 
 use crate::known_walks::KnownWalks;
 use machine_names::{ForkName, Kind};
@@ -36,13 +36,13 @@ impl<S: Store> KnownSlots<S> {
     ghost use Rattle.std.specs.Prelude.{◌≡◌, ℕ, ◌-◌, ◌^◌, ◌<◌};
     ghost use Rattle.machine_names.specs.declared.names.TheConstants.{SPACE_PAGES};
     ghost use Rattle.page_contracts.specs.Pages.{HasSpace};
-    ghost use Rattle.slot_paged.specs.KnownPages.{found_known, known_over, lets_change, lets_known};
-    ghost use Rattle.slot_paged.specs.PagedSlots.{paged_slots};
+    ghost use Rattle.paged_tables.specs.KnownPages.{found_known, known_over, lets_change, lets_known};
+    ghost use Rattle.known_slots.specs.Slots.{slots};
     ghost use Rattle.known_slots.specs.WalkTimes.{known_rows};
 
     /// Whether a fork lives.
     pub fn lives(&self, fork: ForkName) -> bool
-        ensures { result ≡ (paged_slots S.means (λ p. p.pages.store) (λ p. beside_of p.pages.tables)).lives self.now fork }
+        ensures { result ≡ (slots S.means).lives self.now fork }
     {
         self.pages.lives(fork)
     }
@@ -50,7 +50,7 @@ impl<S: Store> KnownSlots<S> {
     /// Where a page of a space is that may be referenced as it is.
     #[inline(always)]
     pub(crate) fn found_for(&self, space: SpaceHandle, page: u16, kind: Kind) -> Option<Found>
-        requires space { HasSpace (paged_slots S.means (λ p. p.pages.store) (λ p. beside_of p.pages.tables)) self.now space }
+        requires space { HasSpace (slots S.means) self.now space }
         requires page { page < SPACE_PAGES }
         ensures { result ≡ found_known (S.means.found self.now.pages.store) (lets_known kind) (known_over (beside_of self.now.pages.tables) (S.means.homes self.now.pages.store) space page) }
     {
@@ -63,7 +63,7 @@ impl<S: Store> KnownSlots<S> {
     /// Where a page of a space is that may be read and written as it is.
     #[inline(always)]
     pub(crate) fn found_to_change(&self, space: SpaceHandle, page: u16) -> Option<Found>
-        requires space { HasSpace (paged_slots S.means (λ p. p.pages.store) (λ p. beside_of p.pages.tables)) self.now space }
+        requires space { HasSpace (slots S.means) self.now space }
         requires page { page < SPACE_PAGES }
         ensures { result ≡ found_known (S.means.found self.now.pages.store) lets_change (known_over (beside_of self.now.pages.tables) (S.means.homes self.now.pages.store) space page) }
     {
@@ -75,8 +75,8 @@ impl<S: Store> KnownSlots<S> {
 
     // What a walk comes to is known from now on, until the last time; what is known of other pages stays.
     #[inline(never)]
-    fn learn(&mut self, space: SpaceHandle, page: u16)
-        requires space { HasSpace (paged_slots S.means (λ p. p.pages.store) (λ p. beside_of p.pages.tables)) self.old space }
+    fn remember(&mut self, space: SpaceHandle, page: u16)
+        requires space { HasSpace (slots S.means) self.old space }
         requires page { page < SPACE_PAGES }
         ensures pages { self.new.pages ≡ self.old.pages }
         ensures known { self.old.walks.time < 2 ^ 64 - 1 → known_rows self.new.walks.rows.items self.new.walks.time space.0 page ≡ known_over (beside_of self.new.pages.tables) (S.means.homes self.new.pages.store) space page }
@@ -91,14 +91,14 @@ impl<S: Store> KnownSlots<S> {
     /// known of other pages stays.
     #[inline(always)]
     pub(crate) fn know(&mut self, space: SpaceHandle, page: u16)
-        requires space { HasSpace (paged_slots S.means (λ p. p.pages.store) (λ p. beside_of p.pages.tables)) self.old space }
+        requires space { HasSpace (slots S.means) self.old space }
         requires page { page < SPACE_PAGES }
         ensures pages { self.new.pages ≡ self.old.pages }
         ensures known { self.old.walks.time < 2 ^ 64 - 1 → known_rows self.new.walks.rows.items self.new.walks.time space.0 page ≡ known_over (beside_of self.new.pages.tables) (S.means.homes self.new.pages.store) space page }
         ensures others { (s p : ℕ) → p < SPACE_PAGES → ((s ≡ space.0) × (p ≡ page) → ⊥) → known_rows self.new.walks.rows.items self.new.walks.time s p ≡ known_rows self.old.walks.rows.items self.old.walks.time s p }
     {
         if self.walks.page(space, page).is_none() {
-            self.learn(space, page);
+            self.remember(space, page);
         }
     }
 }

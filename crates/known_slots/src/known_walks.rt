@@ -7,8 +7,8 @@ ghost use Rattle.known_slots.specs.WalkTimes.{AreDated, unknown_row};
 use machine_names::SPACE_PAGES;
 use page_contracts::SpaceHandle;
 use page_homes::Home;
+use paged_tables::KnownPage;
 use pager_walk::MOST_MAPS;
-use slot_paged::KnownPage;
 use std::alloc::{AllocError, Global};
 
 /// What a walk came to, and when.
@@ -60,7 +60,7 @@ fn row_number(space: SpaceHandle, page: u16) -> usize
 
 impl KnownWalks {
     ghost use Rattle.std.specs.Prelude.{◌≡◌, ◌⊎◌, ◌<◌, ◌+◌, ◌*◌, ◌-◌, ◌^◌, ℕ, None, Some, IfOk, length};
-    ghost use Rattle.slot_paged.specs.declared.known_page.KnownPage.{KnownPage as AKnownPage};
+    ghost use Rattle.paged_tables.specs.declared.known_page.KnownPage.{KnownPage as AKnownPage};
     ghost use Rattle.known_slots.specs.WalkTimes.{known_rows};
 
     /// Nothing is known.

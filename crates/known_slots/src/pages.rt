@@ -1,5 +1,5 @@
 // The pages as the layers above know them.
-ghost use Rattle.slot_paged.specs.PagedTables.{beside_of};
+ghost use Rattle.paged_tables.specs.PagedTables.{beside_of};
 
 use crate::known_slots::KnownSlots;
 use machine_names::{FileNo, ForkName, Kind, PAGE_ADDRESSES, PageName, Place, Slot, Tty};
@@ -12,10 +12,10 @@ use plain_pages::{NewEntry, NewMap};
 use word36::Word;
 
 impl<S: Store> Pages for KnownSlots<S> {
-    ghost use Rattle.slot_paged.specs.PagedSlots.{paged_slots};
+    ghost use Rattle.known_slots.specs.Slots.{slots};
     ghost use Rattle.slot_paged.proofs.HousedPages.{paged_agrees, paged_alone, paged_housed, paged_there, paged_whole};
 
-    ghost means = { paged_slots S.means (λ p. p.pages.store) (λ p. beside_of p.pages.tables) };
+    ghost means = { slots S.means };
 
     fn touch(&self, at: Place, kind: Kind) -> Touch {
         self.pages.touch(at, kind)
@@ -63,6 +63,22 @@ impl<S: Store> Pages for KnownSlots<S> {
     #[inline(always)]
     fn find_to_change(&self, space: SpaceHandle, page: u16) -> Option<Found> {
         self.found_to_change(space, page)
+    }
+
+    #[inline(always)]
+    fn look(&self, space: SpaceHandle, found: Found, address: u32) -> Word {
+        self.pages.look(space, found, address)
+    }
+
+    #[inline(always)]
+    fn used(&mut self, space: SpaceHandle, found: Found, address: u32) {
+        self.know(space, (address / PAGE_ADDRESSES) as u16);
+        self.pages.used(space, found, address);
+    }
+
+    #[inline(always)]
+    fn learn(&mut self, space: SpaceHandle, page: u16) {
+        self.know(space, page);
     }
 
     #[inline(always)]
@@ -123,6 +139,10 @@ impl<S: Store> Pages for KnownSlots<S> {
             self.walks.forget();
         }
         completed
+    }
+
+    fn is_moving(&self) -> bool {
+        self.pages.is_moving()
     }
 
     fn cancelled(&mut self) -> Option<Need> {

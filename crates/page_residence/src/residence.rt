@@ -57,6 +57,7 @@ fn read_into<D: Drum>(
     ensures cause { OnErr result (Rose (D.fault_count drum.old) (D.fault_count drum.new)) }
     ensures counted { OnOk result (CountsUp (D.read_count drum.old) (D.read_count drum.new)) }
     ensures uncounted { OnErr result (D.read_count drum.new ≡ D.read_count drum.old) }
+    ensures reads_later { D.read_count drum.old ≤ D.read_count drum.new }
     ensures writes { D.write_count drum.new ≡ D.write_count drum.old }
     ensures size { D.size drum.new ≡ D.size drum.old }
 {
@@ -84,6 +85,7 @@ fn write_from<D: Drum>(
     ensures cause { OnErr result (Rose (D.fault_count drum.old) (D.fault_count drum.new)) }
     ensures counted { OnOk result (CountsUp (D.write_count drum.old) (D.write_count drum.new)) }
     ensures uncounted { OnErr result (D.write_count drum.new ≡ D.write_count drum.old) }
+    ensures writes_later { D.write_count drum.old ≤ D.write_count drum.new }
     ensures reads { D.read_count drum.new ≡ D.read_count drum.old }
     ensures size { D.size drum.new ≡ D.size drum.old }
 {
@@ -287,6 +289,7 @@ impl Residence {
         ensures cause { OnErr result (Rose (D.fault_count drum.old) (D.fault_count drum.new)) }
         ensures counted { OnOk result (CountsUp (D.read_count drum.old) (D.read_count drum.new)) }
         ensures uncounted { OnErr result (D.read_count drum.new ≡ D.read_count drum.old) }
+        ensures reads_later { D.read_count drum.old ≤ D.read_count drum.new }
         ensures writes { D.write_count drum.new ≡ D.write_count drum.old }
         ensures size { D.size drum.new ≡ D.size drum.old }
     {
@@ -312,6 +315,7 @@ impl Residence {
         ensures cause { OnErr result (Rose (D.fault_count drum.old) (D.fault_count drum.new)) }
         ensures counted { OnOk result (CountsUp (D.write_count drum.old) (D.write_count drum.new)) }
         ensures uncounted { OnErr result (D.write_count drum.new ≡ D.write_count drum.old) }
+        ensures writes_later { D.write_count drum.old ≤ D.write_count drum.new }
         ensures reads { D.read_count drum.new ≡ D.read_count drum.old }
         ensures size { D.size drum.new ≡ D.size drum.old }
     {

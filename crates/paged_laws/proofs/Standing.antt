@@ -2,10 +2,10 @@
 use Rattle.std.proofs.Common.{◌≡◌, ℕ, ◌<◌, Some, subst}
 use Rattle.page_contracts.specs.Pages.{AreHoused, Housed, home_for}
 use Rattle.pager_walk.proofs.Looking.{taken_within}
-use Rattle.slot_paged.specs.PagedSlots.{paged_slots}
-use Rattle.slot_paged.specs.PagedTables.{Beside}
+use Rattle.paged_tables.specs.PagedSlots.{paged_slots}
+use Rattle.paged_tables.specs.PagedTables.{Beside}
 use Rattle.slot_paged.proofs.HousedPages.{paged_housed}
-use Rattle.slot_paged.specs.PagedTables.{AreKept}
+use Rattle.paged_tables.specs.PagedTables.{AreKept}
 use Rattle.paged_store.specs.declared.store.PagedStore.{PagedStore}
 use Rattle.paged_store.specs.OnePlace.{HasOnePlace}
 use Rattle.paged_store.specs.StoreMeaning.{homes_of, paged_meaning}

@@ -259,9 +259,19 @@ impl Store for PagedStore {
     }
 
     #[inline(always)]
-    fn load(&mut self, found: Found, at: u16) -> Word {
-        let word = self.core.word(FrameId(found.0), at);
+    fn look(&self, found: Found, at: u16) -> Word {
+        self.core.word(FrameId(found.0), at)
+    }
+
+    #[inline(always)]
+    fn use_found(&mut self, found: Found) {
         self.use_frame(FrameId(found.0));
+    }
+
+    #[inline(always)]
+    fn load(&mut self, found: Found, at: u16) -> Word {
+        let word = self.look(found, at);
+        self.use_found(found);
         word
     }
 
@@ -332,6 +342,10 @@ impl Store for PagedStore {
                 Err(_) => Completed::DrumFault,
             },
         }
+    }
+
+    fn is_moving(&self) -> bool {
+        self.core.next().is_some()
     }
 
     fn cancelled(&mut self) -> Option<Need> {

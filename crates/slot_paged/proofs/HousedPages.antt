@@ -16,9 +16,9 @@ use Rattle.page_contracts.specs.Stores.{HomePlace, IsSound, StoreMeaning, away, 
 use Rattle.page_contracts.proofs.HomeCounts.{taken_or_free}
 use Rattle.plain_pages.specs.WholePages.{AreWhole}
 use Rattle.flat_pages.specs.SlotMeaning.{AreTold, sound_within}
-use Rattle.flat_pages.specs.SlotTouches.{home_named}
+use Rattle.flat_tables.specs.SlotTouches.{home_named}
 use Rattle.flat_pages.proofs.Agreement.{tables_whole}
-use Rattle.flat_pages.proofs.FiledHomes.{get_filed}
+use Rattle.flat_tables.proofs.FiledHomes.{get_filed}
 use Rattle.flat_pages.proofs.Telling.{named_home, tables_told}
 use Rattle.flat_pages.proofs.Touching.{home_is}
 use Rattle.pager_walk.specs.declared.map_pages.MapPage.{MapPage}
@@ -26,13 +26,13 @@ use Rattle.pager_walk.specs.MapPages.{fork_at, index_of, root_at}
 use Rattle.pager_walk.specs.PagedMaps.{map_away, name_at, name_of, nobody}
 use Rattle.pager_walk.proofs.Looking.{root_taken, taken_map}
 use Rattle.pager_walk.proofs.NumberedMaps.{index_fork, searched}
-use Rattle.slot_paged.specs.PagedMeaning.{forks_in, lives_in}
-use Rattle.slot_paged.specs.PagedSlots.{filed_over, map_home_over, paged_slots}
-use Rattle.slot_paged.specs.PagedTables.{Beside, AreKept, FitsPages, in_memory_over, plain_over}
-use Rattle.slot_paged.proofs.Homed.{flat_pages, sized}
-use Rattle.slot_paged.proofs.Places.{content_same, fits_places}
-use Rattle.slot_paged.proofs.Touched.{named_apart}
-use Rattle.slot_paged.proofs.WalksTold.{index_same}
+use Rattle.paged_tables.specs.PagedMeaning.{forks_in, lives_in}
+use Rattle.paged_tables.specs.PagedSlots.{filed_over, map_home_over, paged_slots}
+use Rattle.paged_tables.specs.PagedTables.{Beside, AreKept, FitsPages, in_memory_over, plain_over}
+use Rattle.paged_tables.proofs.Homed.{flat_pages, sized}
+use Rattle.paged_tables.proofs.Places.{content_same, fits_places}
+use Rattle.paged_tables.proofs.Touched.{named_apart}
+use Rattle.paged_tables.proofs.WalksTold.{index_same}
 
 -- what is away is at a home that is
 pub away_is : (places : List HomePlace) (h home : ℕ) → away_at places h ≡ Some home → place places home ≡ away

@@ -3,7 +3,7 @@ ghost use Rattle.std.specs.Prelude.{◌≡◌, ℕ};
 ghost use Rattle.plain_pages.specs.Maps.{narrowed as permitted};
 ghost use Rattle.pager_walk.specs.declared.paged_entry.Looked.TheVariants as looked;
 ghost use Rattle.pager_walk.specs.declared.paged_entry.PagedEntry.TheVariants as paged;
-ghost use Rattle.slot_paged.specs.SetEntries.{narrow_paged};
+ghost use Rattle.paged_tables.specs.SetEntries.{narrow_paged};
 
 use crate::slot_paged::SlotPaged;
 use machine_names::{Access, Slot};
@@ -20,11 +20,11 @@ impl<S: Store> SlotPaged<S> {
     ghost use Rattle.pager_walk.specs.declared.paged_entry.PagedEntry.{PagedEntry as APagedEntry};
     ghost use Rattle.pager_walk.specs.PagedMaps.{entry_for, is_near, look_at, name_at};
     ghost use Rattle.flat_pages.specs.FileSteps.{HasHome};
-    ghost use Rattle.slot_paged.specs.FreedEntries.{FreesEntry, KeepsHomes};
-    ghost use Rattle.slot_paged.specs.LeftShares.{left_of};
-    ghost use Rattle.slot_paged.specs.PagedTables.{beside_of};
-    ghost use Rattle.slot_paged.specs.PagedTouches.{has_one_name};
-    ghost use Rattle.slot_paged.specs.SetEntries.{FindsEntry, FreesPage, JoinsEntry, PutsPointer, SetsSlot, bare_entry};
+    ghost use Rattle.paged_tables.specs.FreedEntries.{FreesEntry, KeepsHomes};
+    ghost use Rattle.paged_tables.specs.LeftShares.{left_of};
+    ghost use Rattle.paged_tables.specs.PagedTables.{beside_of};
+    ghost use Rattle.paged_tables.specs.PagedTouches.{has_one_name};
+    ghost use Rattle.paged_tables.specs.SetEntries.{FindsEntry, FreesPage, JoinsEntry, PutsPointer, SetsSlot, bare_entry};
 
     // An entry is set, and the page that it named has a name fewer, where it keeps another.
     fn put_left(&mut self, at: Slot, pointer: Pointer)
@@ -135,17 +135,13 @@ impl<S: Store> SlotPaged<S> {
     ghost use Rattle.std.specs.Prelude.{◌≡◌, ◌<◌, ◌≤◌, true};
     ghost use Rattle.machine_names.specs.declared.names.Access.{Access as AnAccess};
     ghost use Rattle.machine_names.specs.declared.names.TheConstants.{LAST_SERIAL, SPACE_PAGES};
-    ghost use Rattle.page_contracts.specs.DrumWords.{DrumWords};
-    ghost use Rattle.page_contracts.specs.Pages.{StaysInCore, is_entry};
-    ghost use Rattle.page_contracts.specs.Stores.{Loses, traffic};
-    ghost use Rattle.plain_pages.specs.NewEntries.{IsNewEntry, changed};
+    ghost use Rattle.page_contracts.specs.Pages.{is_entry};
+    ghost use Rattle.plain_pages.specs.NewEntries.{IsNewEntry};
     ghost use Rattle.pager_walk.specs.PagedMaps.{look_at, seen_for};
-    ghost use Rattle.slot_paged.specs.FreedEntries.{KeepsHomes};
-    ghost use Rattle.slot_paged.specs.PagedMeaning.{forks_in, lives_in};
-    ghost use Rattle.slot_paged.specs.PagedTables.{FitsPages, beside_of, plain_over};
-    ghost use Rattle.slot_paged.specs.PagedTouches.{scene_over};
-    ghost use Rattle.slot_paged.specs.PagedSlots.{filed_over};
-    ghost use Rattle.slot_paged.specs.SetEntries.{ChangesEntry, UsesMapOf};
+    ghost use Rattle.paged_tables.specs.FreedEntries.{KeepsHomes};
+    ghost use Rattle.paged_tables.specs.PagedTables.{beside_of};
+    ghost use Rattle.paged_tables.specs.PagedSlots.{filed_over};
+    ghost use Rattle.paged_tables.specs.SetEntries.{ChangesEntry};
 
     // An entry is set anew that a look finds.
     fn change(&mut self, slot: Slot, seen: PagedEntry, new: NewEntry)
@@ -181,19 +177,8 @@ impl<S: Store> SlotPaged<S> {
         requires seen { is_entry (seen_for (beside_of self.old.tables).tables (look_at (beside_of self.old.tables).tables (S.means.homes self.old.store) slot)) ≡ true }
         requires new { IsNewEntry (filed_over (beside_of self.old.tables)) new }
         requires follows { (serial page : ℕ) (a : AnAccess) → new ≡ NewEntry.Follows serial page a → (1 ≤ serial) × (serial ≤ LAST_SERIAL) }
-        ensures told { (d : DrumWords) → FitsPages (beside_of self.old.tables) (S.means.homes self.old.store) d
-            → FitsPages (beside_of self.new.tables) (S.means.homes self.new.store) d
-            × (plain_over (beside_of self.new.tables) (S.means.homes self.new.store) d ≡ changed (plain_over (beside_of self.old.tables) (S.means.homes self.old.store) d) slot new) }
-        ensures scene { StaysInCore (scene_over (beside_of self.old.tables) (S.means.homes self.old.store) (S.means.spare self.old.store)) (scene_over (beside_of self.new.tables) (S.means.homes self.new.store) (S.means.spare self.new.store)) 0 }
-        ensures filed { filed_over (beside_of self.new.tables) ≡ filed_over (beside_of self.old.tables) }
-        ensures loses { Loses (traffic S.means self.old.store) (traffic S.means self.new.store) }
-        ensures uses { UsesMapOf S.means self.old.store self.new.store (beside_of self.new.tables) slot.fork }
-        ensures homes { KeepsHomes S.means self.old.store self.new.store (beside_of self.old.tables) (beside_of self.new.tables) slot }
-        ensures maps { (beside_of self.new.tables).tables.maps ≡ (beside_of self.old.tables).tables.maps }
-        ensures lives { lives_in (beside_of self.new.tables) ≡ lives_in (beside_of self.old.tables) }
-        ensures forks { forks_in (beside_of self.new.tables) ≡ forks_in (beside_of self.old.tables) }
-        ensures serials { self.new.tables.serials ≡ self.old.tables.serials }
-        ensures most { self.new.tables.limit ≡ self.old.tables.limit }
+        ensures changes { ChangesEntry S.means self.old.store self.new.store (beside_of self.old.tables) (beside_of self.new.tables) slot new }
+        ensures keeps { KeepsHomes S.means self.old.store self.new.store (beside_of self.old.tables) (beside_of self.new.tables) slot }
     {
         let Looked::Is(seen) = entry(&self.store, &self.tables.tables, slot) else {
             unreachable!()

@@ -1,24 +1,23 @@
 // Pages of files.
 ghost use Rattle.std.specs.Prelude.{◌≡◌};
 
-use crate::page_home::PageHome;
 use crate::slot_paged::SlotPaged;
 use machine_names::{FILE_PAGES, FileNo, PageName, Place, Slot};
 use page_contracts::Store;
 use page_homes::Home;
+use paged_tables::PageHome;
 
 impl<S: Store> SlotPaged<S> {
     ghost use Rattle.std.specs.Prelude.{◌≡◌};
     ghost use Rattle.machine_names.specs.Bounds.{IsFilePage};
     ghost use Rattle.machine_names.specs.Orders.{file_page};
-    ghost use Rattle.slot_paged.specs.PagedSlots.{paged_slots};
-    ghost use Rattle.slot_paged.specs.PagedTables.{beside_of};
+    ghost use Rattle.slot_paged.specs.Slots.{slots};
 
     /// The page that a file names at one of its pages; it may be in no frame. None exactly where the file has
     /// no such page.
     pub fn page_of(&self, file: FileNo, page: u16) -> Option<PageName>
         requires { IsFilePage file page }
-        ensures { result ≡ (paged_slots S.means (λ p. p.store) (λ p. beside_of p.tables)).filed self.now (file_page file.0 page) }
+        ensures { result ≡ (slots S.means).filed self.now (file_page file.0 page) }
     {
         match self.tables.filed(file, page) {
             Some(home) => Some(self.tables.tables.name(home)),
@@ -34,9 +33,9 @@ impl<S: Store> SlotPaged<S> {
     ghost use Rattle.machine_names.specs.Bounds.{IsFilePage};
     ghost use Rattle.machine_names.specs.Orders.{file_page};
     ghost use Rattle.pager_walk.specs.PagedMaps.{name_at};
-    ghost use Rattle.slot_paged.specs.FiledSteps.{EmptiesFiled, SetsFiled, SharesPage};
-    ghost use Rattle.slot_paged.specs.PagedTables.{beside_of};
-    ghost use Rattle.slot_paged.specs.PagedTouches.{names_at};
+    ghost use Rattle.paged_tables.specs.FiledSteps.{EmptiesFiled, SetsFiled, SharesPage};
+    ghost use Rattle.paged_tables.specs.PagedTables.{beside_of};
+    ghost use Rattle.paged_tables.specs.PagedTouches.{names_at};
 
     // A file names a page no more that has no other name: the page is given up.
     fn free_filed(&mut self, file: FileNo, page: u16, home: Home)
@@ -114,8 +113,8 @@ impl<S: Store> SlotPaged<S> {
         self.join_file(file, page, home);
     }
 
-    // A file names no page any more at any of its pages. Pages that lose their last name are given up.
-    fn unfile_all(&mut self, file: FileNo)
+    /// Drops all pages of a file. Those that lose their last name are given up.
+    pub fn drop_file(&mut self, file: FileNo)
         requires { file.0 < MOST_FILES }
         ensures { EmptiesFiled S.means self.old.store self.new.store (beside_of self.old.tables) (beside_of self.new.tables) file.0 FILE_PAGES }
     {
@@ -126,37 +125,23 @@ impl<S: Store> SlotPaged<S> {
 }
 
 impl<S: Store> SlotPaged<S> {
-    ghost use Rattle.std.specs.Prelude.{◌≡◌, ◌<◌, ℕ, is_some, IfSome};
-    ghost use Rattle.machine_names.specs.declared.names.TheConstants.{MOST_FILES};
+    ghost use Rattle.std.specs.Prelude.{◌≡◌, IfSome};
     ghost use Rattle.machine_names.specs.declared.names.Kind.TheVariants.{Read};
     ghost use Rattle.machine_names.specs.Bounds.{IsFilePage};
     ghost use Rattle.machine_names.specs.Orders.{file_page};
     ghost use Rattle.page_contracts.specs.declared.answers.Touch.TheVariants.{Ready};
-    ghost use Rattle.page_contracts.specs.DrumWords.{DrumWords};
-    ghost use Rattle.page_contracts.specs.Pages.{DropsFile, FilesOne, IsPlace, MayLose, StaysInCore, UsesNone};
-    ghost use Rattle.plain_pages.specs.FilePages.{filed_by, without_file};
-    ghost use Rattle.flat_pages.specs.FileSteps.{IsFiled};
-    ghost use Rattle.slot_paged.specs.FiledSteps.{PageStays};
-    ghost use Rattle.slot_paged.specs.PagedSlots.{paged_slots};
-    ghost use Rattle.slot_paged.specs.PagedTables.{beside_of};
+    ghost use Rattle.page_contracts.specs.Pages.{IsPlace};
+    ghost use Rattle.paged_tables.specs.FiledSteps.{SetsFilePage};
+    ghost use Rattle.paged_tables.specs.PagedTables.{beside_of};
+    ghost use Rattle.slot_paged.specs.Slots.{slots};
 
     /// Sets a page of a file: to the page at the end of a slot's chain, which a touch to read finds Ready, or to
     /// none. A page that loses its last name is dropped.
     pub fn set_file(&mut self, file: FileNo, page: u16, from: Option<Slot>)
         requires page { IsFilePage file page }
-        requires place { IfSome from (λ s. IsPlace ((paged_slots S.means (λ p. p.store) (λ p. beside_of p.tables)).lives self.old) (Place.Fork s)) }
-        requires ready { IfSome from (λ s. (paged_slots S.means (λ p. p.store) (λ p. beside_of p.tables)).touched self.old (Place.Fork s) Read ≡ Ready) }
-        ensures told { (d : DrumWords) → (paged_slots S.means (λ p. p.store) (λ p. beside_of p.tables)).fits self.old d → (paged_slots S.means (λ p. p.store) (λ p. beside_of p.tables)).fits self.new d × ((paged_slots S.means (λ p. p.store) (λ p. beside_of p.tables)).plain self.new d ≡ filed_by ((paged_slots S.means (λ p. p.store) (λ p. beside_of p.tables)).plain self.old d) (file_page file.0 page) from) }
-        ensures scene { StaysInCore ((paged_slots S.means (λ p. p.store) (λ p. beside_of p.tables)).scene self.old) ((paged_slots S.means (λ p. p.store) (λ p. beside_of p.tables)).scene self.new) 0 }
-        ensures filed { FilesOne (paged_slots S.means (λ p. p.store) (λ p. beside_of p.tables)) (file_page file.0 page) (is_some from) self.old self.new }
-        ensures maps { (beside_of self.new.tables).tables.maps ≡ (beside_of self.old.tables).tables.maps }
-        ensures homes { (k : ℕ) → PageStays (beside_of self.old.tables) (S.means.homes self.old.store) (beside_of self.new.tables) (S.means.homes self.new.store) k (IsFiled self.old.tables.files (file_page file.0 page) k) }
-        ensures loses { MayLose (paged_slots S.means (λ p. p.store) (λ p. beside_of p.tables)) self.old self.new }
-        ensures uses { UsesNone (paged_slots S.means (λ p. p.store) (λ p. beside_of p.tables)) self.old self.new }
-        ensures lives { (paged_slots S.means (λ p. p.store) (λ p. beside_of p.tables)).lives self.new ≡ (paged_slots S.means (λ p. p.store) (λ p. beside_of p.tables)).lives self.old }
-        ensures forks { (paged_slots S.means (λ p. p.store) (λ p. beside_of p.tables)).forks_of self.new ≡ (paged_slots S.means (λ p. p.store) (λ p. beside_of p.tables)).forks_of self.old }
-        ensures serials { (paged_slots S.means (λ p. p.store) (λ p. beside_of p.tables)).serial self.new ≡ (paged_slots S.means (λ p. p.store) (λ p. beside_of p.tables)).serial self.old }
-        ensures most { (paged_slots S.means (λ p. p.store) (λ p. beside_of p.tables)).most self.new ≡ (paged_slots S.means (λ p. p.store) (λ p. beside_of p.tables)).most self.old }
+        requires place { IfSome from (λ s. IsPlace ((slots S.means).lives self.old) (Place.Fork s)) }
+        requires ready { IfSome from (λ s. (slots S.means).touched self.old (Place.Fork s) Read ≡ Ready) }
+        ensures { SetsFilePage S.means self.old.store self.new.store (beside_of self.old.tables) (beside_of self.new.tables) (file_page file.0 page) from }
     {
         let Some(slot) = from else {
             self.unfile(file, page);
@@ -166,21 +151,5 @@ impl<S: Store> SlotPaged<S> {
             unreachable!()
         };
         self.refile(file, page, home);
-    }
-
-    /// Drops all pages of a file. Those that lose their last name are dropped.
-    pub fn drop_file(&mut self, file: FileNo)
-        requires { file.0 < MOST_FILES }
-        ensures told { (d : DrumWords) → (paged_slots S.means (λ p. p.store) (λ p. beside_of p.tables)).fits self.old d → (paged_slots S.means (λ p. p.store) (λ p. beside_of p.tables)).fits self.new d × ((paged_slots S.means (λ p. p.store) (λ p. beside_of p.tables)).plain self.new d ≡ without_file ((paged_slots S.means (λ p. p.store) (λ p. beside_of p.tables)).plain self.old d) file.0) }
-        ensures scene { StaysInCore ((paged_slots S.means (λ p. p.store) (λ p. beside_of p.tables)).scene self.old) ((paged_slots S.means (λ p. p.store) (λ p. beside_of p.tables)).scene self.new) 0 }
-        ensures loses { MayLose (paged_slots S.means (λ p. p.store) (λ p. beside_of p.tables)) self.old self.new }
-        ensures uses { UsesNone (paged_slots S.means (λ p. p.store) (λ p. beside_of p.tables)) self.old self.new }
-        ensures drops { DropsFile (paged_slots S.means (λ p. p.store) (λ p. beside_of p.tables)) file.0 self.old self.new }
-        ensures lives { (paged_slots S.means (λ p. p.store) (λ p. beside_of p.tables)).lives self.new ≡ (paged_slots S.means (λ p. p.store) (λ p. beside_of p.tables)).lives self.old }
-        ensures forks { (paged_slots S.means (λ p. p.store) (λ p. beside_of p.tables)).forks_of self.new ≡ (paged_slots S.means (λ p. p.store) (λ p. beside_of p.tables)).forks_of self.old }
-        ensures serials { (paged_slots S.means (λ p. p.store) (λ p. beside_of p.tables)).serial self.new ≡ (paged_slots S.means (λ p. p.store) (λ p. beside_of p.tables)).serial self.old }
-        ensures most { (paged_slots S.means (λ p. p.store) (λ p. beside_of p.tables)).most self.new ≡ (paged_slots S.means (λ p. p.store) (λ p. beside_of p.tables)).most self.old }
-    {
-        self.unfile_all(file);
     }
 }

@@ -8,23 +8,15 @@ use pager_walk::end;
 use share_table::Pointer;
 
 impl<S: Store> SlotPaged<S> {
-    ghost use Rattle.std.specs.Prelude.{◌≡◌, ◌≢◌, ◌+◌, None, Some, not, true, ◌&&◌};
-    ghost use Rattle.machine_names.specs.declared.names.ForkName.{ForkName as AForkName};
+    ghost use Rattle.std.specs.Prelude.{◌≡◌, None, Some, true};
     ghost use Rattle.machine_names.specs.declared.names.TheConstants.{SPACE_PAGES};
-    ghost use Rattle.machine_names.specs.declared.names.Tty.{Tty as ATty};
-    ghost use Rattle.machine_names.specs.Orders.{same_fork};
-    ghost use Rattle.page_contracts.specs.DrumWords.{DrumWords};
-    ghost use Rattle.page_contracts.specs.Pages.{StaysInCore};
-    ghost use Rattle.page_contracts.specs.Stores.{IsFreed, Loses, RenewsNone, traffic};
-    ghost use Rattle.plain_pages.specs.References.{without_fork};
+    ghost use Rattle.page_contracts.specs.Stores.{IsFreed};
     ghost use Rattle.pager_walk.specs.MapPages.{index_of, root_at};
     ghost use Rattle.pager_walk.specs.PagedMaps.{map_away};
-    ghost use Rattle.slot_paged.specs.EndedForks.{EmptiesFork, fork_gone};
-    ghost use Rattle.slot_paged.specs.FreedEntries.{EndsFork, FreesEntries};
-    ghost use Rattle.slot_paged.specs.PagedMeaning.{forks_in, lives_in};
-    ghost use Rattle.slot_paged.specs.PagedTables.{FitsPages, beside_of, plain_over};
-    ghost use Rattle.slot_paged.specs.PagedTouches.{scene_over};
-    ghost use Rattle.slot_paged.specs.PagedSlots.{filed_over};
+    ghost use Rattle.paged_tables.specs.EndedForks.{EmptiesFork, fork_gone};
+    ghost use Rattle.paged_tables.specs.FreedEntries.{EndsFork, FreesEntries};
+    ghost use Rattle.paged_tables.specs.PagedMeaning.{lives_in};
+    ghost use Rattle.paged_tables.specs.PagedTables.{beside_of};
 
     // Each entry of a fork's map is emptied. Pages that lose their last name are given up.
     fn empty_map(&mut self, fork: ForkName)
@@ -52,19 +44,7 @@ impl<S: Store> SlotPaged<S> {
     pub fn drop_fork(&mut self, fork: ForkName)
         requires lives { lives_in (beside_of self.old.tables) fork ≡ true }
         requires seen { map_away (beside_of self.old.tables).tables (S.means.homes self.old.store) fork ≡ None }
-        ensures told { (d : DrumWords) → FitsPages (beside_of self.old.tables) (S.means.homes self.old.store) d
-            → FitsPages (beside_of self.new.tables) (S.means.homes self.new.store) d
-            × (plain_over (beside_of self.new.tables) (S.means.homes self.new.store) d ≡ without_fork (plain_over (beside_of self.old.tables) (S.means.homes self.old.store) d) fork) }
-        ensures scene { StaysInCore (scene_over (beside_of self.old.tables) (S.means.homes self.old.store) (S.means.spare self.old.store)) (scene_over (beside_of self.new.tables) (S.means.homes self.new.store) (S.means.spare self.new.store)) 0 }
-        ensures filed { filed_over (beside_of self.new.tables) ≡ filed_over (beside_of self.old.tables) }
-        ensures loses { Loses (traffic S.means self.old.store) (traffic S.means self.new.store) }
-        ensures uses { RenewsNone (traffic S.means self.old.store) (traffic S.means self.new.store) }
-        ensures ends { EndsFork S.means self.old.store self.new.store (beside_of self.old.tables) (beside_of self.new.tables) fork }
-        ensures lives { (f : AForkName) → lives_in (beside_of self.new.tables) f ≡ (not (same_fork f fork) && lives_in (beside_of self.old.tables) f) }
-        ensures forks { forks_in (beside_of self.new.tables) fork.tty + 1 ≡ forks_in (beside_of self.old.tables) fork.tty }
-        ensures others { (t : ATty) → t ≢ fork.tty → forks_in (beside_of self.new.tables) t ≡ forks_in (beside_of self.old.tables) t }
-        ensures serials { self.new.tables.serials ≡ self.old.tables.serials }
-        ensures most { self.new.tables.limit ≡ self.old.tables.limit }
+        ensures { EndsFork S.means self.old.store self.new.store (beside_of self.old.tables) (beside_of self.new.tables) fork }
     {
         let Some(number) = self.tables.tables.maps.map_of(fork) else {
             unreachable!()

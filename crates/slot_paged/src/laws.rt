@@ -13,12 +13,12 @@ ghost use Rattle.share_table.specs.Shares.{page_at};
 ghost use Rattle.pager_walk.specs.declared.chain_walk.Walked.TheVariants.{NoChain};
 ghost use Rattle.pager_walk.specs.PagedMaps.{name_at};
 ghost use Rattle.pager_walk.specs.Walks.{walk_at};
-ghost use Rattle.slot_paged.specs.declared.page_home.PageHome.TheVariants.{NoPage};
-ghost use Rattle.slot_paged.specs.ExactCounts.{AreTold, CountsExactly};
-ghost use Rattle.slot_paged.specs.NameCounts.{share_at};
-ghost use Rattle.slot_paged.specs.PageHomes.{homed_over};
-ghost use Rattle.slot_paged.specs.PagedTables.{Beside, plain_over};
-ghost use Rattle.slot_paged.specs.PagedTouches.{names_at, touched_over};
+ghost use Rattle.paged_tables.specs.declared.page_home.PageHome.TheVariants.{NoPage};
+ghost use Rattle.paged_tables.specs.ExactCounts.{AreTold, CountsExactly};
+ghost use Rattle.paged_tables.specs.NameCounts.{share_at};
+ghost use Rattle.paged_tables.specs.PageHomes.{homed_over};
+ghost use Rattle.paged_tables.specs.PagedTables.{Beside, plain_over};
+ghost use Rattle.paged_tables.specs.PagedTouches.{names_at, touched_over};
 
 /// Over each drum that fits, the number of names that the tables keep of a page is the number of map entries and pages
 /// of files that name it: what its share counts, and one where it has no share. A page that has no home is named nowhere.

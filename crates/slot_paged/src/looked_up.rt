@@ -1,10 +1,10 @@
 // Look-ups of pages of spaces.
 ghost use Rattle.std.specs.Prelude.{◌≡◌};
 
-use crate::known_page::KnownPage;
 use crate::slot_paged::SlotPaged;
 use machine_names::{ForkName, Kind, PAGE_ADDRESSES, SPACE_PAGES, Slot};
 use page_contracts::{Found, SpaceHandle, Store};
+use paged_tables::KnownPage;
 use pager_walk::walk;
 use word36::Word;
 
@@ -13,16 +13,16 @@ impl<S: Store> SlotPaged<S> {
     ghost use Rattle.page_contracts.specs.Pages.{HasSpace};
     ghost use Rattle.page_contracts.specs.Stores.{is_taken, place};
     ghost use Rattle.pager_walk.specs.MapPages.{fork_at};
-    ghost use Rattle.slot_paged.specs.declared.known_page.KnownPage.{KnownPage as AKnownPage};
-    ghost use Rattle.slot_paged.specs.KnownPages.{found_known, known_over, lets_change, lets_known};
-    ghost use Rattle.slot_paged.specs.PagedMeaning.{lives_in};
-    ghost use Rattle.slot_paged.specs.PagedSlots.{paged_slots};
-    ghost use Rattle.slot_paged.specs.PagedTables.{beside_of};
+    ghost use Rattle.paged_tables.specs.declared.known_page.KnownPage.{KnownPage as AKnownPage};
+    ghost use Rattle.paged_tables.specs.KnownPages.{found_known, known_over, lets_change, lets_known};
+    ghost use Rattle.paged_tables.specs.PagedMeaning.{lives_in};
+    ghost use Rattle.slot_paged.specs.Slots.{slots};
+    ghost use Rattle.paged_tables.specs.PagedTables.{beside_of};
 
     /// The handle of a fork's space.
     pub fn space(&self, fork: ForkName) -> SpaceHandle
         requires { lives_in (beside_of self.now.tables) fork ≡ true }
-        ensures { (paged_slots S.means (λ p. p.store) (λ p. beside_of p.tables)).space self.now fork ≡ Some result }
+        ensures { (slots S.means).space self.now fork ≡ Some result }
     {
         match self.tables.tables.maps.map_of(fork) {
             Some(number) => SpaceHandle(number),
@@ -43,7 +43,7 @@ impl<S: Store> SlotPaged<S> {
 
     /// What is known of a page of a space, which is at the end of its chain.
     pub fn known(&self, space: SpaceHandle, page: u16) -> Option<KnownPage>
-        requires space { HasSpace (paged_slots S.means (λ p. p.store) (λ p. beside_of p.tables)) self.now space }
+        requires space { HasSpace (slots S.means) self.now space }
         requires page { page < SPACE_PAGES }
         ensures known { result ≡ known_over (beside_of self.now.tables) (S.means.homes self.now.store) space page }
         ensures taken { (k : AKnownPage) → result ≡ Some k → is_taken (place (S.means.homes self.now.store) k.home.0) ≡ true }
@@ -71,7 +71,7 @@ impl<S: Store> SlotPaged<S> {
 
     /// Where a page of a space is that may be referenced as it is.
     pub fn found_for(&self, space: SpaceHandle, page: u16, kind: Kind) -> Option<Found>
-        requires space { HasSpace (paged_slots S.means (λ p. p.store) (λ p. beside_of p.tables)) self.now space }
+        requires space { HasSpace (slots S.means) self.now space }
         requires page { page < SPACE_PAGES }
         ensures { result ≡ found_known (S.means.found self.now.store) (lets_known kind) (known_over (beside_of self.now.tables) (S.means.homes self.now.store) space page) }
     {
@@ -83,7 +83,7 @@ impl<S: Store> SlotPaged<S> {
 
     /// Where a page of a space is that may be read and written as it is.
     pub fn found_to_change(&self, space: SpaceHandle, page: u16) -> Option<Found>
-        requires space { HasSpace (paged_slots S.means (λ p. p.store) (λ p. beside_of p.tables)) self.now space }
+        requires space { HasSpace (slots S.means) self.now space }
         requires page { page < SPACE_PAGES }
         ensures { result ≡ found_known (S.means.found self.now.store) lets_change (known_over (beside_of self.now.tables) (S.means.homes self.now.store) space page) }
     {
@@ -103,40 +103,70 @@ impl<S: Store> SlotPaged<S> {
     ghost use Rattle.page_contracts.specs.Pages.{HasSpace, MayLose, OnlyUses, StaysPut};
     ghost use Rattle.page_contracts.specs.Stores.{IsUsed, place, with_word_in, word_in};
     ghost use Rattle.plain_pages.specs.References.{in_map, slot_at, stored, word_at};
-    ghost use Rattle.slot_paged.specs.KnownPages.{known_over};
-    ghost use Rattle.slot_paged.specs.PagedSlots.{paged_slots};
-    ghost use Rattle.slot_paged.specs.PagedTables.{beside_of};
+    ghost use Rattle.paged_tables.specs.KnownPages.{known_over};
+    ghost use Rattle.slot_paged.specs.Slots.{slots};
+    ghost use Rattle.paged_tables.specs.PagedTables.{beside_of};
 
-    /// The word at an address of a space, in a page that was found, which is a use of it: the page is the
-    /// last to have to leave its frame, and where its departure is queued it is taken from the queue.
-    pub fn load(&mut self, space: SpaceHandle, found: Found, address: u32) -> Word
-        requires space { HasSpace (paged_slots S.means (λ p. p.store) (λ p. beside_of p.tables)) self.old space }
+    /// The word at an address of a space, in a page that was found. This is a look, and no use of the page.
+    #[inline(always)]
+    pub fn look(&self, space: SpaceHandle, found: Found, address: u32) -> Word
+        requires space { HasSpace (slots S.means) self.now space }
         requires address { IsAddress address }
-        requires place { (paged_slots S.means (λ p. p.store) (λ p. beside_of p.tables)).place self.old space (address / PAGE_WORDS) ≡ Some found }
-        ensures told { (d : DrumWords) (f : AForkName) → (paged_slots S.means (λ p. p.store) (λ p. beside_of p.tables)).fits self.old d → (paged_slots S.means (λ p. p.store) (λ p. beside_of p.tables)).space self.old f ≡ Some space
-            → result ≡ word_at ((paged_slots S.means (λ p. p.store) (λ p. beside_of p.tables)).plain self.old d) (in_map (slot_at f address)) (address % PAGE_WORDS) }
-        ensures answer { (home : ℕ) → S.means.found self.old.store home ≡ Some found → word_in (place (S.means.homes self.old.store) home) (address % PAGE_WORDS) ≡ Some result }
-        ensures only { OnlyUses (paged_slots S.means (λ p. p.store) (λ p. beside_of p.tables)) self.old self.new }
-        ensures uses { (home : ℕ) → (paged_slots S.means (λ p. p.store) (λ p. beside_of p.tables)).store.found self.old home ≡ Some found → IsUsed (paged_slots S.means (λ p. p.store) (λ p. beside_of p.tables)).store home self.old self.new }
+        requires place { (slots S.means).place self.now space (address / PAGE_WORDS) ≡ Some found }
+        ensures told { (d : DrumWords) (f : AForkName) → (slots S.means).fits self.now d → (slots S.means).space self.now f ≡ Some space
+            → result ≡ word_at ((slots S.means).plain self.now d) (in_map (slot_at f address)) (address % PAGE_WORDS) }
+        ensures answer { (home : ℕ) → S.means.found self.now.store home ≡ Some found → word_in (place (S.means.homes self.now.store) home) (address % PAGE_WORDS) ≡ Some result }
+    {
+        self.store.look(found, (address % PAGE_ADDRESSES) as u16)
+    }
+
+    /// A use of the page of an address of a space, which was found: the page is the last to have to leave its
+    /// frame, and where its departure is queued it is taken from the queue.
+    #[inline(always)]
+    pub fn used(&mut self, space: SpaceHandle, found: Found, address: u32)
+        requires space { HasSpace (slots S.means) self.old space }
+        requires address { IsAddress address }
+        requires place { (slots S.means).place self.old space (address / PAGE_WORDS) ≡ Some found }
+        ensures only { OnlyUses (slots S.means) self.old self.new }
+        ensures uses { (home : ℕ) → (slots S.means).store.found self.old home ≡ Some found → IsUsed (slots S.means).store home self.old self.new }
         ensures known { known_over (beside_of self.new.tables) (S.means.homes self.new.store) ≡ known_over (beside_of self.old.tables) (S.means.homes self.old.store) }
         ensures tables { self.new.tables ≡ self.old.tables }
     {
-        self.store.load(found, (address % PAGE_ADDRESSES) as u16)
+        self.store.use_found(found);
+    }
+
+    /// The word at an address of a space, in a page that was found, which is a use of it.
+    #[inline(always)]
+    pub fn load(&mut self, space: SpaceHandle, found: Found, address: u32) -> Word
+        requires space { HasSpace (slots S.means) self.old space }
+        requires address { IsAddress address }
+        requires place { (slots S.means).place self.old space (address / PAGE_WORDS) ≡ Some found }
+        ensures told { (d : DrumWords) (f : AForkName) → (slots S.means).fits self.old d → (slots S.means).space self.old f ≡ Some space
+            → result ≡ word_at ((slots S.means).plain self.old d) (in_map (slot_at f address)) (address % PAGE_WORDS) }
+        ensures answer { (home : ℕ) → S.means.found self.old.store home ≡ Some found → word_in (place (S.means.homes self.old.store) home) (address % PAGE_WORDS) ≡ Some result }
+        ensures only { OnlyUses (slots S.means) self.old self.new }
+        ensures uses { (home : ℕ) → (slots S.means).store.found self.old home ≡ Some found → IsUsed (slots S.means).store home self.old self.new }
+        ensures known { known_over (beside_of self.new.tables) (S.means.homes self.new.store) ≡ known_over (beside_of self.old.tables) (S.means.homes self.old.store) }
+        ensures tables { self.new.tables ≡ self.old.tables }
+    {
+        let word = self.look(space, found, address);
+        self.used(space, found, address);
+        word
     }
 
     /// Puts a word at an address of a space, in a page that was found, which is a use of it.
     pub fn store(&mut self, space: SpaceHandle, found: Found, address: u32, word: Word)
-        requires space { HasSpace (paged_slots S.means (λ p. p.store) (λ p. beside_of p.tables)) self.old space }
+        requires space { HasSpace (slots S.means) self.old space }
         requires address { IsAddress address }
-        requires place { (paged_slots S.means (λ p. p.store) (λ p. beside_of p.tables)).place self.old space (address / PAGE_WORDS) ≡ Some found }
-        ensures told { (d : DrumWords) (f : AForkName) → (paged_slots S.means (λ p. p.store) (λ p. beside_of p.tables)).fits self.old d → (paged_slots S.means (λ p. p.store) (λ p. beside_of p.tables)).space self.old f ≡ Some space
-            → (paged_slots S.means (λ p. p.store) (λ p. beside_of p.tables)).fits self.new d × ((paged_slots S.means (λ p. p.store) (λ p. beside_of p.tables)).plain self.new d ≡ stored ((paged_slots S.means (λ p. p.store) (λ p. beside_of p.tables)).plain self.old d) (in_map (slot_at f address)) (address % PAGE_WORDS) word) }
+        requires place { (slots S.means).place self.old space (address / PAGE_WORDS) ≡ Some found }
+        ensures told { (d : DrumWords) (f : AForkName) → (slots S.means).fits self.old d → (slots S.means).space self.old f ≡ Some space
+            → (slots S.means).fits self.new d × ((slots S.means).plain self.new d ≡ stored ((slots S.means).plain self.old d) (in_map (slot_at f address)) (address % PAGE_WORDS) word) }
         ensures homes { (home : ℕ) → S.means.found self.old.store home ≡ Some found
             → S.means.homes self.new.store ≡ slice_set (S.means.homes self.old.store) home (with_word_in (place (S.means.homes self.old.store) home) (address % PAGE_WORDS) word) }
-        ensures fits { (d : DrumWords) → (paged_slots S.means (λ p. p.store) (λ p. beside_of p.tables)).fits self.old d → (paged_slots S.means (λ p. p.store) (λ p. beside_of p.tables)).fits self.new d }
-        ensures loses { MayLose (paged_slots S.means (λ p. p.store) (λ p. beside_of p.tables)) self.old self.new }
-        ensures uses { (home : ℕ) → (paged_slots S.means (λ p. p.store) (λ p. beside_of p.tables)).store.found self.old home ≡ Some found → IsUsed (paged_slots S.means (λ p. p.store) (λ p. beside_of p.tables)).store home self.old self.new }
-        ensures stays { StaysPut (paged_slots S.means (λ p. p.store) (λ p. beside_of p.tables)) self.old self.new }
+        ensures fits { (d : DrumWords) → (slots S.means).fits self.old d → (slots S.means).fits self.new d }
+        ensures loses { MayLose (slots S.means) self.old self.new }
+        ensures uses { (home : ℕ) → (slots S.means).store.found self.old home ≡ Some found → IsUsed (slots S.means).store home self.old self.new }
+        ensures stays { StaysPut (slots S.means) self.old self.new }
         ensures known { known_over (beside_of self.new.tables) (S.means.homes self.new.store) ≡ known_over (beside_of self.old.tables) (S.means.homes self.old.store) }
         ensures tables { self.new.tables ≡ self.old.tables }
     {

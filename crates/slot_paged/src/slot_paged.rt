@@ -1,14 +1,13 @@
 // Maps that are pages of a store.
 ghost use Rattle.std.specs.Prelude.{◌≡◌};
-ghost use Rattle.slot_paged.specs.PagedTables.{AreKept, beside_of};
-ghost use Rattle.slot_paged.specs.PagedTouches.{copy_for};
+ghost use Rattle.paged_tables.specs.PagedTables.{AreKept, beside_of};
+ghost use Rattle.paged_tables.specs.PagedTouches.{copy_for};
 
-use crate::page_home::PageHome;
-use crate::paged_tables::PagedTables;
 use machine_names::{ForkName, Kind, PageName, Place, Slot, Tty};
 use outside::{Drum, Memory};
 use page_contracts::{Completed, MOST_HOLDERS, Need, Peeked, Room, Seen, Store, Touch};
 use page_homes::{FrameId, Home, MOST_HOMES};
+use paged_tables::{PageHome, PagedTables};
 use pager_walk::{
     FULL_ACCESS, Looked, PagedEntry, Walked, Way, begin, begin_following, entry, make_page, seen,
     set, walk,
@@ -45,10 +44,10 @@ impl<S: Store + Drop> SlotPaged<S> {
     ghost use Rattle.machine_names.specs.declared.names.Tty.{Tty as ATty};
     ghost use Rattle.page_contracts.specs.DrumWords.{DrumWords};
     ghost use Rattle.page_contracts.specs.Stores.{FitsHomes, free};
-    ghost use Rattle.flat_pages.specs.Serials.{serial_of};
+    ghost use Rattle.flat_tables.specs.Serials.{serial_of};
     ghost use Rattle.plain_pages.specs.PlainPages.{opening_pages};
-    ghost use Rattle.slot_paged.specs.PagedTables.{FitsPages, beside_of, plain_over};
-    ghost use Rattle.slot_paged.specs.PagedMeaning.{forks_in, lives_in};
+    ghost use Rattle.paged_tables.specs.PagedTables.{FitsPages, beside_of, plain_over};
+    ghost use Rattle.paged_tables.specs.PagedMeaning.{forks_in, lives_in};
 
     /// No fork and no page, over a store with so many homes, at most 16,384, all of them free: so many pages
     /// and forks may live. Err: no memory.
@@ -82,10 +81,10 @@ impl<S: Store> SlotPaged<S> {
     ghost use Rattle.outside.specs.declared.TheConstants.{PAGE_WORDS};
     ghost use Rattle.pager_walk.specs.declared.chain_walk.Walked.TheVariants.{Along};
     ghost use Rattle.pager_walk.specs.Walks.{WayStands};
-    ghost use Rattle.slot_paged.specs.PagedTables.{FitsPages, beside_of, plain_over};
-    ghost use Rattle.slot_paged.specs.PagedTouches.{alone_at, copy_touched, file_touched, made_touched, roomy, scene_over, touched_over, walk_touched};
-    ghost use Rattle.slot_paged.specs.PageHomes.{counted_over, homed_over, peeked_at, peeked_over};
-    ghost use Rattle.slot_paged.specs.PagedMeaning.{lives_in};
+    ghost use Rattle.paged_tables.specs.PagedTables.{FitsPages, beside_of, plain_over};
+    ghost use Rattle.paged_tables.specs.PagedTouches.{alone_at, copy_touched, file_touched, made_touched, roomy, scene_over, touched_over, walk_touched};
+    ghost use Rattle.paged_tables.specs.PageHomes.{counted_over, homed_over, peeked_at, peeked_over};
+    ghost use Rattle.paged_tables.specs.PagedMeaning.{lives_in};
 
     // What wants a frame answers so, where none is free.
     fn framed(&self, touch: Touch) -> Touch
@@ -350,17 +349,17 @@ impl<S: Store> SlotPaged<S> {
 }
 
 impl<S: Store> SlotPaged<S> {
-    ghost use Rattle.std.specs.Prelude.{◌≡◌, ◌+◌, ◌<◌, ◌≤◌, length, slice_set};
+    ghost use Rattle.std.specs.Prelude.{◌≡◌, ◌↔◌, ◌+◌, ◌<◌, ◌≤◌, [], false, length, slice_set};
     ghost use Rattle.outside.specs.declared.TheConstants.{PAGE_WORDS};
     ghost use Rattle.page_homes.specs.declared.homes.Home.{Home as AHome};
     ghost use Rattle.page_contracts.specs.DrumWords.{DrumWords, Stands};
     ghost use Rattle.page_contracts.specs.Pages.{IsPlace, room_for, spot_of};
     ghost use Rattle.page_contracts.specs.Stores.{CanFetch, CanKeep, Completes, Evicts, IsFetched, IsUsed, Keeps, LetsGo, Tells, awaited, meeting, most_held, place, with_word_in};
     ghost use Rattle.plain_pages.specs.References.{stored};
-    ghost use Rattle.slot_paged.specs.PagedTables.{FitsPages, plain_over};
-    ghost use Rattle.slot_paged.specs.PagedTouches.{touched_over};
-    ghost use Rattle.slot_paged.specs.PageHomes.{homed_over};
-    ghost use Rattle.slot_paged.specs.PagedMeaning.{lives_in};
+    ghost use Rattle.paged_tables.specs.PagedTables.{FitsPages, plain_over};
+    ghost use Rattle.paged_tables.specs.PagedTouches.{touched_over};
+    ghost use Rattle.paged_tables.specs.PageHomes.{homed_over};
+    ghost use Rattle.paged_tables.specs.PagedMeaning.{lives_in};
 
     /// Puts a word at an offset of the page of a place, which a touch to write finds Ready, and which is used.
     pub fn put(&mut self, at: Place, offset: u16, word: Word)
@@ -437,6 +436,13 @@ impl<S: Store> SlotPaged<S> {
         self.store.complete(drum)
     }
 
+    /// Whether a transfer is queued.
+    pub fn is_moving(&self) -> bool
+        ensures { (result ≡ false) ↔ (S.means.queue self.now.store ≡ []) }
+    {
+        self.store.is_moving()
+    }
+
     /// What a transfer would have told that was taken from the queue, as a store does.
     pub fn cancelled(&mut self) -> Option<Need>
         ensures tells { Tells S.means result self.old.store self.new.store }
@@ -488,22 +494,19 @@ impl<S: Store> SlotPaged<S> {
 }
 
 impl<S: Store> SlotPaged<S> {
-    ghost use Rattle.std.specs.Prelude.{◌≡◌, ◌≢◌, ◌+◌, ◌<◌, ◌≤◌, ◌||◌, ℕ, false, None, Some};
+    ghost use Rattle.std.specs.Prelude.{◌≡◌, ◌+◌, ◌<◌, ◌≤◌, false, None};
     ghost use Rattle.machine_names.specs.declared.names.ForkName.{ForkName as AForkName};
-    ghost use Rattle.machine_names.specs.declared.names.Tty.{Tty as ATty};
     ghost use Rattle.machine_names.specs.declared.names.TheConstants.{LAST_SERIAL, MOST_FORKS, SPACE_PAGES, TERMINALS};
-    ghost use Rattle.machine_names.specs.Orders.{same_fork};
     ghost use Rattle.machine_names.specs.PageWords.{zero_words};
     ghost use Rattle.page_contracts.specs.DrumWords.{DrumWords};
     ghost use Rattle.page_contracts.specs.Pages.{IsNewMap};
-    ghost use Rattle.page_contracts.specs.Stores.{IsMade, here, place};
+    ghost use Rattle.page_contracts.specs.Stores.{IsMade, here};
     ghost use Rattle.plain_pages.specs.NewMaps.{with_map};
     ghost use Rattle.pager_walk.specs.MapPages.{first_map, fork_at, index_of};
     ghost use Rattle.pager_walk.specs.NewPages.{following_words};
-    ghost use Rattle.slot_paged.specs.AddedForks.{AddsFork, new_words};
-    ghost use Rattle.slot_paged.specs.PagedTables.{FitsPages, beside_of, plain_over};
-    ghost use Rattle.slot_paged.specs.PagedMeaning.{forks_in, lives_in, with_fork};
-    ghost use Rattle.slot_paged.specs.PagedSlots.{map_home_over};
+    ghost use Rattle.paged_tables.specs.AddedForks.{AddsFork};
+    ghost use Rattle.paged_tables.specs.PagedTables.{FitsPages, beside_of, plain_over};
+    ghost use Rattle.paged_tables.specs.PagedMeaning.{forks_in, lives_in, with_fork};
 
     // A number that no fork's map has, among those of a terminal.
     fn number_for(&self, tty: Tty) -> u32
@@ -577,19 +580,7 @@ impl<S: Store> SlotPaged<S> {
         requires terminal { fork.tty.0 < TERMINALS }
         requires map { IsNewMap (lives_in (beside_of self.old.tables)) fork map }
         requires leader { (g : AForkName) → map ≡ NewMap.FollowAll g → (1 ≤ g.serial) × (g.serial ≤ LAST_SERIAL) }
-        ensures told { (d : DrumWords) → FitsPages (beside_of self.old.tables) (S.means.homes self.old.store) d
-            → FitsPages (beside_of self.new.tables) (S.means.homes self.new.store) d
-            × (plain_over (beside_of self.new.tables) (S.means.homes self.new.store) d ≡ with_map (plain_over (beside_of self.old.tables) (S.means.homes self.old.store) d) fork map) }
-        ensures adds { AddsFork S.means self.old.store self.new.store (beside_of self.old.tables) (beside_of self.new.tables) fork }
-        ensures words { (home : ℕ) → map_home_over (beside_of self.new.tables) fork ≡ Some home → place (S.means.homes self.new.store) home ≡ here (new_words map) }
-        ensures lives { (f : AForkName) → lives_in (beside_of self.new.tables) f ≡ (same_fork f fork || lives_in (beside_of self.old.tables) f) }
-        ensures forks { forks_in (beside_of self.new.tables) fork.tty ≡ forks_in (beside_of self.old.tables) fork.tty + 1 }
-        ensures others { (t : ATty) → t ≢ fork.tty → forks_in (beside_of self.new.tables) t ≡ forks_in (beside_of self.old.tables) t }
-        ensures living { self.new.tables.living ≡ self.old.tables.living + 1 }
-        ensures taken { self.new.tables.taken ≡ self.old.tables.taken }
-        ensures limit { self.new.tables.limit ≡ self.old.tables.limit }
-        ensures files { self.new.tables.files ≡ self.old.tables.files }
-        ensures serials { self.new.tables.serials ≡ self.old.tables.serials }
+        ensures { AddsFork S.means self.old.store self.new.store (beside_of self.old.tables) (beside_of self.new.tables) fork map }
     {
         let number = self.number_for(fork.tty);
         match map {

@@ -1,4 +1,4 @@
-use Rattle.slot_paged.specs.PagedTables.{beside_of}
+use Rattle.paged_tables.specs.PagedTables.{beside_of}
 use Rattle.paged_laws.proofs.Standing.{stands}
 use Rattle.paged_laws.proofs.laws.pages_and_maps_have_one_place.Goals as goal
 

@@ -1,4 +1,4 @@
-use Rattle.slot_paged.specs.PagedTables.{beside_of}
+use Rattle.paged_tables.specs.PagedTables.{beside_of}
 use Rattle.paged_laws.proofs.Standing.{stands_apart, stands_below}
 use Rattle.paged_laws.proofs.laws.pages_and_maps_stand_apart.Goals as goal
 

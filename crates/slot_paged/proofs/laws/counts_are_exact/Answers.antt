@@ -1,4 +1,4 @@
-use Rattle.slot_paged.proofs.CountLaws.{alone_exact, gone_exact, names_exact, share_exact}
+use Rattle.paged_tables.proofs.CountLaws.{alone_exact, gone_exact, names_exact, share_exact}
 use Rattle.slot_paged.proofs.laws.counts_are_exact.Goals as goal
 
 pub returns : goal.returns

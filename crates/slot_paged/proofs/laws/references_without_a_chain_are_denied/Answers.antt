@@ -1,6 +1,6 @@
 use Rattle.std.proofs.Common.{ap}
-use Rattle.slot_paged.specs.PageHomes.{homed_along}
-use Rattle.slot_paged.specs.PagedTouches.{walk_touched}
+use Rattle.paged_tables.specs.PageHomes.{homed_along}
+use Rattle.paged_tables.specs.PagedTouches.{walk_touched}
 use Rattle.slot_paged.proofs.laws.references_without_a_chain_are_denied.Goals as goal
 
 pub returns : goal.returns

@@ -1,7 +1,7 @@
 use Rattle.std.proofs.Common.{◌≡◌, ◌∙◌, Bool, None, Some, ap, cond, sym}
-use Rattle.slot_paged.specs.KnownPages.{found_known, known_over, lets_known}
-use Rattle.slot_paged.specs.PagedTables.{beside_of}
-use Rattle.slot_paged.proofs.KnownTouches.{known_taken}
+use Rattle.paged_tables.specs.KnownPages.{found_known, known_over, lets_known}
+use Rattle.paged_tables.specs.PagedTables.{beside_of}
+use Rattle.paged_tables.proofs.KnownTouches.{known_taken}
 use Rattle.known_slots.proofs.known_slots.KnownSlots.found_for.Goals as goal
 
 pub found_at-requires : goal.found_at-requires

@@ -1,6 +1,6 @@
 use Rattle.std.proofs.Common.{sym}
-use Rattle.slot_paged.specs.PagedTables.{beside_of}
-use Rattle.slot_paged.proofs.KnownTouches.{known_taken}
+use Rattle.paged_tables.specs.PagedTables.{beside_of}
+use Rattle.paged_tables.proofs.KnownTouches.{known_taken}
 use Rattle.known_slots.proofs.known_slots.KnownSlots.found_to_change.Goals as goal
 
 pub found_at-requires : goal.found_at-requires

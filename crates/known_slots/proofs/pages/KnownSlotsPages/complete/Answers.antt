@@ -1,9 +1,9 @@
 use Rattle.std.proofs.Common.{◌≡◌, sym, ◌∙◌, ap, subst}
 use Rattle.std.proofs.Props.{props}
 use Rattle.page_contracts.specs.declared.store.Completed.TheVariants.{Done, Nothing}
-use Rattle.slot_paged.specs.declared.paged_tables.PagedTables.{PagedTables}
-use Rattle.slot_paged.specs.PagedTables.{AreKept, beside_of}
-use Rattle.slot_paged.proofs.AskedOfStore.{stays_same}
+use Rattle.paged_tables.specs.declared.paged_tables.PagedTables.{PagedTables}
+use Rattle.paged_tables.specs.PagedTables.{AreKept, beside_of}
+use Rattle.paged_tables.proofs.AskedOfStore.{stays_same}
 use Rattle.known_slots.specs.KnownNow.{AreKnown}
 use Rattle.known_slots.proofs.Completing.{completed_within}
 use Rattle.known_slots.proofs.pages.KnownSlotsPages.complete.Goals as goal

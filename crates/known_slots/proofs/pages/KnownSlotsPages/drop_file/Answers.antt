@@ -1,6 +1,8 @@
-use Rattle.slot_paged.specs.PagedTables.{beside_of}
-use Rattle.known_slots.proofs.WithinPages.{drops_within}
+use Rattle.paged_tables.specs.PagedTables.{beside_of}
+use Rattle.known_slots.proofs.FilesDropped.{file_dropped}
 use Rattle.known_slots.proofs.pages.KnownSlotsPages.drop_file.Goals as goal
 
-pub returns-clause-drops : goal.returns-clause-drops
-returns-clause-drops g c = drops_within g.S.Store.means (λ p. p.store) (λ p. beside_of p.tables) (λ p. p.pages) c.args.file.0 c.args.self.now _ c.drop_file.ensures.drops
+pub returns : goal.returns
+returns g c =
+    let s = c.args.self.now in
+    file_dropped g.S.Store.means (λ p. p.pages.store) (λ p. beside_of p.pages.tables) s _ s.pages.kept c.drop_file.new.self.kept (g.met.S.Store.sound s.pages.store) c.args.file c.drop_file.ensures

@@ -1,6 +1,6 @@
 use Rattle.std.proofs.Common.{ap}
-use Rattle.slot_paged.specs.PagedTables.{beside_of}
-use Rattle.slot_paged.proofs.AskedOfStore.{stays_same}
+use Rattle.paged_tables.specs.PagedTables.{beside_of}
+use Rattle.paged_tables.proofs.AskedOfStore.{stays_same}
 use Rattle.known_slots.proofs.pages.KnownSlotsPages.evict.Goals as goal
 
 pub returns-clause-same : goal.returns-clause-same

@@ -1,5 +1,5 @@
-use Rattle.slot_paged.specs.PagedTables.{beside_of}
-use Rattle.slot_paged.proofs.KnownTouches.{found_exactly, touch_ready}
+use Rattle.paged_tables.specs.PagedTables.{beside_of}
+use Rattle.paged_tables.proofs.KnownTouches.{found_exactly, touch_ready}
 use Rattle.known_slots.proofs.pages.KnownSlotsPages.find.Goals as goal
 
 pub returns-clause-ready : goal.returns-clause-ready

@@ -1,6 +1,6 @@
 use Rattle.machine_names.specs.declared.names.Kind.TheVariants.{Read, Write}
-use Rattle.slot_paged.specs.PagedTables.{beside_of}
-use Rattle.slot_paged.proofs.KnownTouches.{change_exactly, touch_ready}
+use Rattle.paged_tables.specs.PagedTables.{beside_of}
+use Rattle.paged_tables.proofs.KnownTouches.{change_exactly, touch_ready}
 use Rattle.known_slots.proofs.pages.KnownSlotsPages.find_to_change.Goals as goal
 
 pub returns-clause-ready : goal.returns-clause-ready

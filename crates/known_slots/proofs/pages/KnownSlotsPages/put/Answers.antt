@@ -4,13 +4,13 @@ use Rattle.machine_names.specs.declared.names.Kind.TheVariants.{Write}
 use Rattle.page_contracts.proofs.Losing.{loses_used}
 use Rattle.page_contracts.specs.Stores.{IsUsed, place, with_word_in}
 use Rattle.flat_pages.proofs.HandedOn.{used_within}
-use Rattle.slot_paged.specs.KnownPages.{known_over}
-use Rattle.slot_paged.specs.PagedTables.{beside_of}
-use Rattle.slot_paged.proofs.Homed.{homed_taken, place_stands}
-use Rattle.slot_paged.proofs.Moved.{put_apart}
-use Rattle.slot_paged.proofs.PutInto.{put_stays}
-use Rattle.slot_paged.proofs.ReadyHomes.{ready_at, words_here}
-use Rattle.slot_paged.proofs.StillWalked.{knowns_same, put_roots}
+use Rattle.paged_tables.specs.KnownPages.{known_over}
+use Rattle.paged_tables.specs.PagedTables.{beside_of}
+use Rattle.paged_tables.proofs.Homed.{homed_taken, place_stands}
+use Rattle.paged_tables.proofs.Moved.{put_apart}
+use Rattle.paged_tables.proofs.PutInto.{put_stays}
+use Rattle.paged_tables.proofs.ReadyHomes.{ready_at, words_here}
+use Rattle.paged_tables.proofs.StillWalked.{knowns_same, put_roots}
 use Rattle.known_slots.proofs.PlacesUsed.{home_at}
 use Rattle.known_slots.proofs.pages.KnownSlotsPages.put.Goals as goal
 

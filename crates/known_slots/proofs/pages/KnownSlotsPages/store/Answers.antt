@@ -1,8 +1,8 @@
 use Rattle.std.proofs.Common.{◌∙◌, subst}
 use Rattle.page_contracts.specs.Pages.{StaysPut}
 use Rattle.slot_paged.specs.declared.slot_paged.SlotPaged.{SlotPaged}
-use Rattle.slot_paged.specs.PagedSlots.{paged_slots}
-use Rattle.slot_paged.specs.PagedTables.{beside_of}
+use Rattle.paged_tables.specs.PagedSlots.{paged_slots}
+use Rattle.paged_tables.specs.PagedTables.{beside_of}
 use Rattle.known_slots.proofs.WithinPages.{put_within}
 use Rattle.known_slots.proofs.pages.KnownSlotsPages.store.Goals as goal
 

@@ -4,10 +4,10 @@ use Rattle.page_contracts.specs.Stores.{HomePlace}
 use Rattle.plain_pages.specs.declared.map.NewMap.TheVariants as new_map
 use Rattle.plain_pages.specs.NewMaps.{with_map}
 use Rattle.pager_walk.specs.PagedMaps.{Tables, FitsMaps, with_root}
-use Rattle.flat_pages.specs.HeldMaps.{no_page}
-use Rattle.slot_paged.specs.PagedTables.{Beside, FitsPages, beside_of, plain_over}
-use Rattle.slot_paged.specs.PagedMeaning.{with_fork}
-use Rattle.slot_paged.proofs.NewForks.{begun_told, empty_entries, empty_plain, new_entries}
+use Rattle.flat_tables.specs.HeldMaps.{no_page}
+use Rattle.paged_tables.specs.PagedTables.{Beside, FitsPages, beside_of, plain_over}
+use Rattle.paged_tables.specs.PagedMeaning.{with_fork}
+use Rattle.paged_tables.proofs.NewForks.{begun_told, empty_entries, empty_plain, new_entries}
 use Rattle.slot_paged.proofs.slot_paged.SlotPaged.begin_empty.Goals as goal
 
 pub returns-clause-told : goal.returns-clause-told

@@ -1,15 +1,15 @@
-use Rattle.std.proofs.Common.{◌≡◌, ◌+◌, ◌<◌, List, length, sym, ap, subst, arith}
+use Rattle.std.proofs.Common.{◌≡◌, ◌+◌, List, sym, ap, subst}
 use Rattle.machine_names.specs.declared.names.TheConstants.{SPACE_PAGES}
 use Rattle.page_contracts.specs.Stores.{HomePlace}
 use Rattle.plain_pages.specs.declared.map.NewMap.TheVariants as new_map
 use Rattle.plain_pages.specs.NewMaps.{with_map}
 use Rattle.pager_walk.specs.NewPages.{following_words}
 use Rattle.pager_walk.specs.PagedMaps.{Tables, FitsMaps, with_root}
-use Rattle.flat_pages.specs.HeldMaps.{followers}
-use Rattle.flat_pages.proofs.Beginning.{followers_follow, followers_new}
-use Rattle.slot_paged.specs.PagedTables.{Beside, FitsPages, beside_of, plain_over}
-use Rattle.slot_paged.specs.PagedMeaning.{with_fork}
-use Rattle.slot_paged.proofs.NewForks.{begun_told, following_entries}
+use Rattle.flat_tables.specs.HeldMaps.{followers}
+use Rattle.flat_tables.proofs.Beginning.{followers_follow, followers_new}
+use Rattle.paged_tables.specs.PagedTables.{Beside, FitsPages, beside_of, plain_over}
+use Rattle.paged_tables.specs.PagedMeaning.{with_fork}
+use Rattle.paged_tables.proofs.NewForks.{begun_told, following_entries}
 use Rattle.slot_paged.proofs.slot_paged.SlotPaged.begin_following.Goals as goal
 
 pub returns-clause-told : goal.returns-clause-told
@@ -24,7 +24,6 @@ returns-clause-told g c d fits =
     let f = c.args.fork in
     let stored = g.S.Store.means.homes c.begin_following-home.new.store in
     let words = following_words c.args.leader.serial SPACE_PAGES in
-    let within : k < length b.tables.maps = omega (arith, s.kept.rooted.numbered.count, r.below, r.terminal) in
     let now = beside_of (record s.tables { tables = c.begin_following-home.new.tables; living = s.tables.living + 1 }) in
     let same : now ≡ with_fork b k f home = ap (λ (t : Tables). record b { tables = t; living = b.living + 1 }) m.tables in
     let fits' = subst (λ (ps : List HomePlace). FitsMaps (with_root b.tables k f home) ps d) m.made.homes (subst (λ (t : Tables). FitsMaps t stored d) m.tables (m.fits d fits.maps)) in

@@ -1,7 +1,7 @@
 use Rattle.std.proofs.Common.{List, refl, sym, subst}
 use Rattle.page_contracts.specs.Stores.{HomePlace, FitsHomes}
-use Rattle.slot_paged.specs.PagedTables.{beside_of}
-use Rattle.slot_paged.proofs.Booted.{IsFresh, fresh_fits, fresh_kept, fresh_few, fresh_forks, fresh_lives, fresh_plain, fresh_serials}
+use Rattle.paged_tables.specs.PagedTables.{beside_of}
+use Rattle.paged_tables.proofs.Booted.{IsFresh, fresh_fits, fresh_kept, fresh_few, fresh_forks, fresh_lives, fresh_plain, fresh_serials}
 use Rattle.slot_paged.proofs.slot_paged.SlotPaged.boot.Goals as goal
 
 pub invariant_of-result : goal.invariant_of-result

@@ -9,14 +9,14 @@ use Rattle.share_table.specs.declared.pointer.Pointer.{Pointer}
 use Rattle.share_table.specs.Pointers.{IsPointer, pointer_word}
 use Rattle.pager_walk.specs.declared.paged_entry.PagedEntry.TheVariants as paged
 use Rattle.pager_walk.specs.PagedMaps.{entry_for, is_near, name_of, plain_entry}
-use Rattle.flat_pages.proofs.FiledHomes.{get_filed}
-use Rattle.slot_paged.specs.PagedTables.{Beside, beside_of}
-use Rattle.slot_paged.specs.PagedSlots.{filed_over}
-use Rattle.slot_paged.specs.SetEntries.{ChangesEntry, PutsPointer, narrow_paged, pointer_of}
-use Rattle.slot_paged.proofs.EntryChanged.{changes, narrow_is, page_is}
-use Rattle.slot_paged.proofs.HomesKept.{word_keeps}
-use Rattle.slot_paged.proofs.JoinDone.{kept_done}
-use Rattle.slot_paged.proofs.NarrowEntry.{narrow_fits, narrow_follows, narrow_points, narrow_stands}
+use Rattle.flat_tables.proofs.FiledHomes.{get_filed}
+use Rattle.paged_tables.specs.PagedTables.{Beside, beside_of}
+use Rattle.paged_tables.specs.PagedSlots.{filed_over}
+use Rattle.paged_tables.specs.SetEntries.{ChangesEntry, PutsPointer, narrow_paged, pointer_of}
+use Rattle.paged_tables.proofs.EntryChanged.{changes, narrow_is, page_is}
+use Rattle.paged_tables.proofs.HomesKept.{word_keeps}
+use Rattle.paged_tables.proofs.JoinDone.{kept_done}
+use Rattle.paged_tables.proofs.NarrowEntry.{narrow_fits, narrow_follows, narrow_points, narrow_stands}
 use Rattle.slot_paged.proofs.slot_paged.SlotPaged.change.Goals as goal
 
 pub unreachable-requires : goal.unreachable-requires
@@ -33,7 +33,6 @@ put_kept-requires-clause-pointer g c =
     let b = beside_of s.tables in
     let store = g.S.Store.means in
     let places = store.homes s.store in
-    let pages = (g.met.S.Store.sound s.store).pages in
     let r = c.requires in
     let at = c.args.slot in
     let q = c.args.seen in
@@ -47,7 +46,6 @@ put_kept-requires-clause-entry g c =
     let b = beside_of s.tables in
     let store = g.S.Store.means in
     let places = store.homes s.store in
-    let pages = (g.met.S.Store.sound s.store).pages in
     let r = c.requires in
     let at = c.args.slot in
     let q = c.args.seen in
@@ -60,7 +58,6 @@ returns-in-Empty-clause-changes g c =
     let s = c.args.self.now in
     let b = beside_of s.tables in
     let store = g.S.Store.means in
-    let places = store.homes s.store in
     let pages = (g.met.S.Store.sound s.store).pages in
     let r = c.requires in
     let at = c.args.slot in
@@ -73,7 +70,6 @@ returns-in-Follows-clause-changes g c =
     let s = c.args.self.now in
     let b = beside_of s.tables in
     let store = g.S.Store.means in
-    let places = store.homes s.store in
     let pages = (g.met.S.Store.sound s.store).pages in
     let r = c.requires in
     let at = c.args.slot in

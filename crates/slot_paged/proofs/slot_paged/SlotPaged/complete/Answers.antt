@@ -1,6 +1,6 @@
 use Rattle.std.proofs.Common.{refl}
-use Rattle.slot_paged.specs.PagedTables.{beside_of}
-use Rattle.slot_paged.proofs.Moved.{kept_moved, moved_told}
+use Rattle.paged_tables.specs.PagedTables.{beside_of}
+use Rattle.paged_tables.proofs.Moved.{kept_moved, moved_told}
 use Rattle.slot_paged.proofs.slot_paged.SlotPaged.complete.Goals as goal
 
 pub invariant_of-self : goal.invariant_of-self

@@ -1,10 +1,10 @@
 use Rattle.std.proofs.Common.{◌≡◌, ℕ, refl, subst, arith}
 use Rattle.pager_walk.specs.declared.paged_entry.PagedEntry.TheVariants as paged
-use Rattle.slot_paged.specs.EndedForks.{EmptiesFork}
-use Rattle.slot_paged.specs.FreedEntries.{FreesEntries}
-use Rattle.slot_paged.specs.PagedTables.{beside_of}
-use Rattle.slot_paged.proofs.EmptiedForks.{empties_more, empties_none, near_later, numbered_lives}
-use Rattle.slot_paged.proofs.EntriesFreed.{frees_more, frees_none}
+use Rattle.paged_tables.specs.EndedForks.{EmptiesFork}
+use Rattle.paged_tables.specs.FreedEntries.{FreesEntries}
+use Rattle.paged_tables.specs.PagedTables.{beside_of}
+use Rattle.paged_tables.proofs.EmptiedForks.{empties_more, empties_none, near_later, numbered_lives}
+use Rattle.paged_tables.proofs.EntriesFreed.{frees_more, frees_none}
 use Rattle.slot_paged.proofs.slot_paged.SlotPaged.empty_map.Goals as goal
 
 pub loop-page-init : goal.loop-page-init

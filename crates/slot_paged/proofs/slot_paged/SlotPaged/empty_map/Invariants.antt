@@ -1,6 +1,6 @@
-use Rattle.slot_paged.specs.EndedForks.{EmptiesFork}
-use Rattle.slot_paged.specs.FreedEntries.{FreesEntries}
-use Rattle.slot_paged.specs.PagedTables.{beside_of}
+use Rattle.paged_tables.specs.EndedForks.{EmptiesFork}
+use Rattle.paged_tables.specs.FreedEntries.{FreesEntries}
+use Rattle.paged_tables.specs.PagedTables.{beside_of}
 use Rattle.slot_paged.proofs.slot_paged.SlotPaged.empty_map.Given as goal
 
 abbrev pub invariant-loop-page : goal.invariant-loop-page

@@ -1,9 +1,9 @@
 use Rattle.std.proofs.Common.{◌≡◌, ◌-◌, List, sym, ap, subst, arith}
 use Rattle.page_contracts.specs.Stores.{HomePlace}
 use Rattle.pager_walk.specs.PagedMaps.{Tables}
-use Rattle.slot_paged.specs.EndedForks.{fork_gone}
-use Rattle.slot_paged.specs.PagedTables.{AreKept, Beside, beside_of}
-use Rattle.slot_paged.proofs.ForksEnded.{ended_kept, one_fewer}
+use Rattle.paged_tables.specs.EndedForks.{fork_gone}
+use Rattle.paged_tables.specs.PagedTables.{AreKept, Beside, beside_of}
+use Rattle.paged_tables.proofs.ForksEnded.{ended_kept, one_fewer}
 use Rattle.slot_paged.proofs.slot_paged.SlotPaged.end_map.Goals as goal
 
 pub overflow_sub-self : goal.overflow_sub-self

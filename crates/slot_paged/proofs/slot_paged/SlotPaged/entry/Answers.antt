@@ -1,7 +1,7 @@
 use Rattle.std.proofs.Common.{refl}
-use Rattle.slot_paged.specs.PagedTables.{beside_of, plain_over}
-use Rattle.slot_paged.specs.PagedTouches.{scene_over}
-use Rattle.slot_paged.proofs.MapsTold.{maps_told}
+use Rattle.paged_tables.specs.PagedTables.{beside_of, plain_over}
+use Rattle.paged_tables.specs.PagedTouches.{scene_over}
+use Rattle.paged_tables.proofs.MapsTold.{maps_told}
 use Rattle.slot_paged.proofs.slot_paged.SlotPaged.entry.Goals as goal
 
 pub returns-clause-told : goal.returns-clause-told

@@ -1,10 +1,10 @@
 use Rattle.std.proofs.Common.{List, None, sym, subst}
 use Rattle.machine_names.specs.Orders.{file_page}
 use Rattle.page_contracts.specs.Stores.{HomePlace}
-use Rattle.slot_paged.specs.FiledSteps.{SetsFiled}
-use Rattle.slot_paged.specs.PagedTables.{AreKept, Beside, beside_of}
-use Rattle.slot_paged.proofs.FiledKept.{gone_kept}
-use Rattle.slot_paged.proofs.FilingSteps.{gone_step}
+use Rattle.paged_tables.specs.FiledSteps.{SetsFiled}
+use Rattle.paged_tables.specs.PagedTables.{AreKept, Beside, beside_of}
+use Rattle.paged_tables.proofs.FiledKept.{gone_kept}
+use Rattle.paged_tables.proofs.FilingSteps.{gone_step}
 use Rattle.slot_paged.proofs.slot_paged.SlotPaged.free_filed.Goals as goal
 
 pub invariant_of-self : goal.invariant_of-self

@@ -1,6 +1,6 @@
 use Rattle.std.proofs.Common.{◌∙◌, sym}
-use Rattle.slot_paged.specs.PagedTables.{beside_of}
-use Rattle.slot_paged.proofs.Homed.{homed_away, homed_taken, place_stands}
+use Rattle.paged_tables.specs.PagedTables.{beside_of}
+use Rattle.paged_tables.proofs.Homed.{homed_away, homed_taken, place_stands}
 use Rattle.slot_paged.proofs.slot_paged.SlotPaged.home_of.Goals as goal
 
 pub returns : goal.returns

@@ -1,9 +1,9 @@
 use Rattle.std.proofs.Common.{Some, sym, subst}
 use Rattle.machine_names.specs.Orders.{file_page}
-use Rattle.slot_paged.specs.FiledSteps.{SetsFiled}
-use Rattle.slot_paged.specs.PagedTables.{AreKept, beside_of}
-use Rattle.slot_paged.proofs.FiledKept.{filed_small}
-use Rattle.slot_paged.proofs.FilingSteps.{joined_after}
+use Rattle.paged_tables.specs.FiledSteps.{SetsFiled}
+use Rattle.paged_tables.specs.PagedTables.{AreKept, beside_of}
+use Rattle.paged_tables.proofs.FiledKept.{filed_small}
+use Rattle.paged_tables.proofs.FilingSteps.{joined_after}
 use Rattle.slot_paged.proofs.slot_paged.SlotPaged.join_file.Goals as goal
 
 pub join_file-requires-clause-few : goal.join_file-requires-clause-few

@@ -1,7 +1,7 @@
 use Rattle.std.proofs.Common.{ap, map}
 use Rattle.page_contracts.specs.Stores.{is_taken}
-use Rattle.slot_paged.specs.PagedTables.{beside_of}
-use Rattle.slot_paged.proofs.Moved.{kept_moved}
+use Rattle.paged_tables.specs.PagedTables.{beside_of}
+use Rattle.paged_tables.proofs.Moved.{kept_moved}
 use Rattle.slot_paged.proofs.slot_paged.SlotPaged.keep.Goals as goal
 
 pub invariant_of-self : goal.invariant_of-self

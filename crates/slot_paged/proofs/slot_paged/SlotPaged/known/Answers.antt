@@ -1,9 +1,9 @@
 use Rattle.std.proofs.Common.{◌≡◌, ◌∙◌, Some, sym, ap}
 use Rattle.machine_names.specs.declared.names.ForkName.{ForkName}
 use Rattle.pager_walk.specs.Walks.{walk_at}
-use Rattle.slot_paged.specs.KnownPages.{known_along, known_of}
-use Rattle.slot_paged.specs.PagedTables.{beside_of}
-use Rattle.slot_paged.proofs.KnownTouches.{known_taken, space_fork}
+use Rattle.paged_tables.specs.KnownPages.{known_along, known_of}
+use Rattle.paged_tables.specs.PagedTables.{beside_of}
+use Rattle.paged_tables.proofs.KnownTouches.{known_taken, space_fork}
 use Rattle.slot_paged.proofs.slot_paged.SlotPaged.known.Goals as goal
 
 pub returns-in-Some-clause-taken : goal.returns-in-Some-clause-taken

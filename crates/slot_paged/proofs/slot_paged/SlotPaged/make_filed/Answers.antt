@@ -4,12 +4,12 @@ use Rattle.std.specs.FinMap as fin
 use Rattle.machine_names.specs.Orders.{file_page}
 use Rattle.machine_names.specs.PageWords.{zero_words}
 use Rattle.page_contracts.specs.Stores.{HomePlace, here, is_taken}
-use Rattle.flat_pages.specs.TableSteps.{next_name}
+use Rattle.flat_tables.specs.TableSteps.{next_name}
 use Rattle.pager_walk.specs.PagedMaps.{Tables, AreRooted, tables_of, with_name}
-use Rattle.slot_paged.specs.declared.paged_tables.PagedTables.{PagedTables}
-use Rattle.slot_paged.specs.MadePages.{page_filed}
-use Rattle.slot_paged.specs.PagedTables.{Beside, AreKept, beside_of}
-use Rattle.slot_paged.proofs.FiledPages.{filed_kept}
+use Rattle.paged_tables.specs.declared.paged_tables.PagedTables.{PagedTables}
+use Rattle.paged_tables.specs.MadePages.{page_filed}
+use Rattle.paged_tables.specs.PagedTables.{Beside, AreKept, beside_of}
+use Rattle.paged_tables.proofs.FiledPages.{filed_kept}
 use Rattle.slot_paged.proofs.slot_paged.SlotPaged.make_filed.Goals as goal
 
 pub invariant_of-self : goal.invariant_of-self

@@ -4,17 +4,17 @@ use Rattle.page_homes.specs.declared.homes.Home.{Home}
 use Rattle.page_contracts.specs.Stores.{HomePlace, IsUsed, is_here, is_taken, place, with_word_in}
 use Rattle.share_table.specs.declared.pointer.Pointer.TheVariants.{Private}
 use Rattle.share_table.specs.Pointers.{pointer_word}
-use Rattle.flat_pages.specs.TableSteps.{next_name}
-use Rattle.flat_pages.proofs.Making.{here_taken}
+use Rattle.flat_tables.specs.TableSteps.{next_name}
+use Rattle.flat_tables.proofs.Making.{here_taken}
 use Rattle.pager_walk.specs.declared.paged_entry.Looked.{Looked}
 use Rattle.pager_walk.specs.MapPages.{index_of, root_at}
 use Rattle.pager_walk.specs.PagedMaps.{Tables, AreRooted, FitsMaps, look_at, tables_of, with_name}
-use Rattle.slot_paged.specs.declared.paged_tables.PagedTables.{PagedTables}
-use Rattle.slot_paged.specs.LeftShares.{left_of}
-use Rattle.slot_paged.specs.MadePages.{page_like, page_named, with_shares}
-use Rattle.slot_paged.specs.PagedTables.{Beside, AreKept, beside_of}
-use Rattle.slot_paged.proofs.LeftOnce.{look_fits, look_kept}
-use Rattle.slot_paged.proofs.PagesMade.{made_kept, made_places, near_number}
+use Rattle.paged_tables.specs.declared.paged_tables.PagedTables.{PagedTables}
+use Rattle.paged_tables.specs.LeftShares.{left_of}
+use Rattle.paged_tables.specs.MadePages.{page_like, page_named, with_shares}
+use Rattle.paged_tables.specs.PagedTables.{Beside, AreKept, beside_of}
+use Rattle.paged_tables.proofs.LeftOnce.{look_fits, look_kept}
+use Rattle.paged_tables.proofs.PagesMade.{made_kept, made_places, near_number}
 use Rattle.slot_paged.proofs.slot_paged.SlotPaged.make_named.Goals as goal
 
 like_taken : (places : List HomePlace) (from : Option Home) → ((h : Home) → from ≡ Some h → is_here (place places h.0) ≡ true) → is_taken (page_like places from) ≡ true

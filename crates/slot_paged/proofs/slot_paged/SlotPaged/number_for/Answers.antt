@@ -1,6 +1,6 @@
 use Rattle.std.proofs.Common.{refl}
-use Rattle.slot_paged.specs.PagedTables.{beside_of}
-use Rattle.slot_paged.proofs.NewForks.{number_free}
+use Rattle.paged_tables.specs.PagedTables.{beside_of}
+use Rattle.paged_tables.proofs.NewForks.{number_free}
 use Rattle.slot_paged.proofs.slot_paged.SlotPaged.number_for.Goals as goal
 
 pub unreachable-requires : goal.unreachable-requires

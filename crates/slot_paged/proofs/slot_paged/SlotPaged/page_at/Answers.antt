@@ -1,8 +1,8 @@
 use Rattle.std.proofs.Common.{◌≡◌, ◌∙◌, Some, None, ap, sym}
 use Rattle.page_contracts.specs.Pages.{counted}
-use Rattle.slot_paged.specs.PageHomes.{counted_home}
-use Rattle.slot_paged.specs.PagedTables.{beside_of, plain_over}
-use Rattle.slot_paged.proofs.Homed.{counted_told, map_gone, none_named, place_stands, place_tells}
+use Rattle.paged_tables.specs.PageHomes.{counted_home}
+use Rattle.paged_tables.specs.PagedTables.{beside_of, plain_over}
+use Rattle.paged_tables.proofs.Homed.{counted_told, map_gone, none_named, place_stands, place_tells}
 use Rattle.slot_paged.proofs.slot_paged.SlotPaged.page_at.Goals as goal
 
 pub returns-in-At : goal.returns-in-At

@@ -2,8 +2,8 @@ use Rattle.std.proofs.Common.{◌∙◌, Some, ap, sym}
 use Rattle.std.specs.Option.{option_map}
 use Rattle.machine_names.specs.Orders.{file_page}
 use Rattle.pager_walk.specs.PagedMaps.{name_of}
-use Rattle.flat_pages.proofs.FiledHomes.{get_filed}
-use Rattle.slot_paged.specs.PagedTables.{beside_of}
+use Rattle.flat_tables.proofs.FiledHomes.{get_filed}
+use Rattle.paged_tables.specs.PagedTables.{beside_of}
 use Rattle.slot_paged.proofs.slot_paged.SlotPaged.page_of.Goals as goal
 
 pub returns-in-Some : goal.returns-in-Some

@@ -1,8 +1,8 @@
 use Rattle.std.proofs.Common.{◌∙◌, refl, ap, subst, sym}
 use Rattle.page_contracts.specs.Pages.{PeekNeeds}
-use Rattle.slot_paged.specs.PageHomes.{peeked_home}
-use Rattle.slot_paged.specs.PagedTables.{beside_of}
-use Rattle.slot_paged.proofs.Homed.{peek_map, peek_needed, peek_nothing, peek_told, place_stands, place_tells}
+use Rattle.paged_tables.specs.PageHomes.{peeked_home}
+use Rattle.paged_tables.specs.PagedTables.{beside_of}
+use Rattle.paged_tables.proofs.Homed.{peek_map, peek_needed, peek_nothing, peek_told, place_stands, place_tells}
 use Rattle.slot_paged.proofs.slot_paged.SlotPaged.peek.Goals as goal
 
 pub returns-in-At : goal.returns-in-At

@@ -2,7 +2,7 @@ use Rattle.std.proofs.Common.{◌∙◌, ap, sym}
 use Rattle.page_contracts.specs.Stores.{place}
 use Rattle.page_contracts.specs.declared.answers.Peeked.TheVariants.{Is}
 use Rattle.flat_pages.proofs.Meeting.{word_here, word_away}
-use Rattle.slot_paged.specs.PageHomes.{peeked_at}
+use Rattle.paged_tables.specs.PageHomes.{peeked_at}
 use Rattle.slot_paged.proofs.slot_paged.SlotPaged.peek_home.Goals as goal
 
 pub returns-in-Some : goal.returns-in-Some

@@ -6,10 +6,10 @@ use Rattle.page_contracts.specs.Pages.{spot_of}
 use Rattle.page_contracts.specs.Stores.{HomePlace, IsUsed, away_at, place, with_word_in}
 use Rattle.plain_pages.specs.References.{stored}
 use Rattle.pager_walk.proofs.Looking.{ArePages}
-use Rattle.slot_paged.specs.declared.page_home.PageHome.TheVariants.{At}
-use Rattle.slot_paged.specs.PagedTables.{AreKept, FitsPages, beside_of, plain_over}
-use Rattle.slot_paged.proofs.Moved.{put_kept, put_told}
-use Rattle.slot_paged.proofs.ReadyHomes.{ready_at, words_here}
+use Rattle.paged_tables.specs.declared.page_home.PageHome.TheVariants.{At}
+use Rattle.paged_tables.specs.PagedTables.{AreKept, FitsPages, beside_of, plain_over}
+use Rattle.paged_tables.proofs.Moved.{put_kept, put_told}
+use Rattle.paged_tables.proofs.ReadyHomes.{ready_at, words_here}
 use Rattle.slot_paged.proofs.slot_paged.SlotPaged.put.Goals as goal
 
 pub invariant_of-self : goal.invariant_of-self

@@ -5,12 +5,12 @@ use Rattle.share_table.specs.Pointers.{pointer_word}
 use Rattle.pager_walk.specs.MapPages.{index_of, root_at}
 use Rattle.pager_walk.specs.PagedMaps.{AreRooted, is_near, look_at}
 use Rattle.pager_walk.proofs.Changing.{taken_still}
-use Rattle.slot_paged.specs.PagedTables.{Beside, AreKept, beside_of}
-use Rattle.slot_paged.specs.SetEntries.{page_freed}
-use Rattle.slot_paged.proofs.FreedDone.{freed_near}
-use Rattle.slot_paged.proofs.FreedPages.{freed_kept, places'}
-use Rattle.slot_paged.proofs.Moved.{kept_moved}
-use Rattle.slot_paged.proofs.PagesMade.{near_number, taken_word}
+use Rattle.paged_tables.specs.PagedTables.{Beside, AreKept, beside_of}
+use Rattle.paged_tables.specs.SetEntries.{page_freed}
+use Rattle.paged_tables.proofs.FreedDone.{freed_near}
+use Rattle.paged_tables.proofs.FreedPages.{freed_kept, places'}
+use Rattle.paged_tables.proofs.Moved.{kept_moved}
+use Rattle.paged_tables.proofs.PagesMade.{near_number, taken_word}
 use Rattle.slot_paged.proofs.slot_paged.SlotPaged.put_freed.Goals as goal
 
 pub set-requires-clause-rooted : goal.set-requires-clause-rooted

@@ -6,11 +6,11 @@ use Rattle.share_table.specs.Pointers.{IsPointer, pointer_word}
 use Rattle.pager_walk.specs.MapPages.{index_of, root_at}
 use Rattle.pager_walk.specs.PagedMaps.{entry_for, name_at}
 use Rattle.pager_walk.proofs.Changing.{taken_still}
-use Rattle.slot_paged.specs.PagedTables.{Beside, AreKept, beside_of}
-use Rattle.slot_paged.proofs.Joining.{join_beside, join_kept, join_room, join_there, join_within}
-use Rattle.slot_paged.proofs.Moved.{kept_moved}
-use Rattle.slot_paged.proofs.PagesMade.{near_number, taken_word}
-use Rattle.slot_paged.proofs.RenamedPages.{pointer_fits, pointer_names}
+use Rattle.paged_tables.specs.PagedTables.{Beside, AreKept, beside_of}
+use Rattle.paged_tables.proofs.Joining.{join_beside, join_kept, join_room, join_there, join_within}
+use Rattle.paged_tables.proofs.Moved.{kept_moved}
+use Rattle.paged_tables.proofs.PagesMade.{near_number, taken_word}
+use Rattle.paged_tables.proofs.RenamedPages.{pointer_fits, pointer_names}
 use Rattle.slot_paged.proofs.slot_paged.SlotPaged.put_joined.Goals as goal
 
 pub join-requires-clause-home : goal.join-requires-clause-home
@@ -27,12 +27,10 @@ set-requires-clause-rooted g c =
     let s = c.args.self.now in
     let b = beside_of s.tables in
     let places = g.S.Store.means.homes s.store in
-    let at = c.args.at in
     let home = c.args.home in
     let j = c.join.ensures in
     let b' = beside_of c.join.new.self in
     let kept = join_kept b places s.kept home c.requires.named b' j in
-    let some : is_some (name_at b'.tables.names home.0) ≡ true = ap (λ (x : Beside). is_some (name_at x.tables.names home.0)) (join_beside b places s.kept home c.requires.named b' j) ∙ c.requires.named in
     kept.rooted
 
 pub set-requires-clause-pointer : goal.set-requires-clause-pointer
@@ -40,7 +38,6 @@ set-requires-clause-pointer g c =
     let s = c.args.self.now in
     let b = beside_of s.tables in
     let places = g.S.Store.means.homes s.store in
-    let at = c.args.at in
     let home = c.args.home in
     let j = c.join.ensures in
     let b' = beside_of c.join.new.self in
@@ -53,7 +50,6 @@ set-requires-clause-entry g c =
     let s = c.args.self.now in
     let b = beside_of s.tables in
     let places = g.S.Store.means.homes s.store in
-    let at = c.args.at in
     let home = c.args.home in
     let j = c.join.ensures in
     let b' = beside_of c.join.new.self in
@@ -71,7 +67,6 @@ invariant_of-self g c =
     let j = c.join.ensures in
     let b' = beside_of c.join.new.self in
     let kept = join_kept b places s.kept home c.requires.named b' j in
-    let some : is_some (name_at b'.tables.names home.0) ≡ true = ap (λ (x : Beside). is_some (name_at x.tables.names home.0)) (join_beside b places s.kept home c.requires.named b' j) ∙ c.requires.named in
     let x = near_number b.tables places at c.requires.near in
     let same = join_beside b places s.kept home c.requires.named b' j in
     let word = pointer_word c.pointer-pointer.result in
@@ -88,8 +83,6 @@ returns g c =
     let home = c.args.home in
     let j = c.join.ensures in
     let b' = beside_of c.join.new.self in
-    let kept = join_kept b places s.kept home c.requires.named b' j in
-    let some : is_some (name_at b'.tables.names home.0) ≡ true = ap (λ (x : Beside). is_some (name_at x.tables.names home.0)) (join_beside b places s.kept home c.requires.named b' j) ∙ c.requires.named in
     let x = near_number b.tables places at c.requires.near in
     let same = join_beside b places s.kept home c.requires.named b' j in
     let numbered = ap (λ (y : Beside). index_of y.tables.maps at.fork) same ∙ x.1 in

@@ -4,9 +4,9 @@ use Rattle.page_contracts.specs.Stores.{HomePlace, place, with_word_in}
 use Rattle.share_table.specs.Pointers.{pointer_word}
 use Rattle.pager_walk.specs.MapPages.{root_at}
 use Rattle.pager_walk.proofs.Changing.{taken_still}
-use Rattle.slot_paged.specs.PagedTables.{AreKept, beside_of}
-use Rattle.slot_paged.proofs.Moved.{kept_moved}
-use Rattle.slot_paged.proofs.PagesMade.{near_number, taken_word}
+use Rattle.paged_tables.specs.PagedTables.{AreKept, beside_of}
+use Rattle.paged_tables.proofs.Moved.{kept_moved}
+use Rattle.paged_tables.proofs.PagesMade.{near_number, taken_word}
 use Rattle.slot_paged.proofs.slot_paged.SlotPaged.put_kept.Goals as goal
 
 pub invariant_of-self : goal.invariant_of-self

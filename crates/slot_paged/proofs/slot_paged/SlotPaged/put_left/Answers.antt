@@ -6,12 +6,12 @@ use Rattle.pager_walk.specs.declared.paged_entry.Looked.{Looked}
 use Rattle.pager_walk.specs.MapPages.{index_of, root_at}
 use Rattle.pager_walk.specs.PagedMaps.{FitsMaps, look_at}
 use Rattle.pager_walk.proofs.Changing.{taken_still}
-use Rattle.slot_paged.specs.LeftShares.{left_of}
-use Rattle.slot_paged.specs.MadePages.{with_shares}
-use Rattle.slot_paged.specs.PagedTables.{Beside, AreKept, beside_of}
-use Rattle.slot_paged.proofs.LeftOnce.{look_fits, look_kept}
-use Rattle.slot_paged.proofs.Moved.{kept_moved}
-use Rattle.slot_paged.proofs.PagesMade.{near_number, taken_word}
+use Rattle.paged_tables.specs.LeftShares.{left_of}
+use Rattle.paged_tables.specs.MadePages.{with_shares}
+use Rattle.paged_tables.specs.PagedTables.{Beside, AreKept, beside_of}
+use Rattle.paged_tables.proofs.LeftOnce.{look_fits, look_kept}
+use Rattle.paged_tables.proofs.Moved.{kept_moved}
+use Rattle.paged_tables.proofs.PagesMade.{near_number, taken_word}
 use Rattle.slot_paged.proofs.slot_paged.SlotPaged.put_left.Goals as goal
 
 pub invariant_of-self : goal.invariant_of-self

@@ -1,8 +1,8 @@
 use Rattle.std.proofs.Common.{◌∙◌, is_some, ap}
 use Rattle.machine_names.specs.Orders.{file_page}
 use Rattle.pager_walk.specs.PagedMaps.{name_at}
-use Rattle.slot_paged.specs.PagedTables.{beside_of}
-use Rattle.slot_paged.proofs.FilingSteps.{files_on, name_stays, same_step, some_name}
+use Rattle.paged_tables.specs.PagedTables.{beside_of}
+use Rattle.paged_tables.proofs.FilingSteps.{files_on, name_stays, same_step, some_name}
 use Rattle.slot_paged.proofs.slot_paged.SlotPaged.refile.Goals as goal
 
 pub returns-then-names_page : goal.returns-then-names_page

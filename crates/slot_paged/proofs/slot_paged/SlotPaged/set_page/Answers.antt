@@ -3,12 +3,12 @@ use Rattle.std.specs.FinMap as fin
 use Rattle.share_table.specs.Pointers.{pointer_word}
 use Rattle.pager_walk.specs.declared.paged_entry.PagedEntry.TheVariants as paged
 use Rattle.pager_walk.specs.PagedMaps.{is_near, name_at}
-use Rattle.slot_paged.specs.MadePages.{pointer_to}
-use Rattle.slot_paged.specs.PagedTables.{Beside, beside_of}
-use Rattle.slot_paged.proofs.EntryChanged.{set_on}
-use Rattle.slot_paged.proofs.HomesKept.{words_keep}
-use Rattle.slot_paged.proofs.JoinDone.{join_done}
-use Rattle.slot_paged.proofs.Joining.{join_beside}
+use Rattle.paged_tables.specs.MadePages.{pointer_to}
+use Rattle.paged_tables.specs.PagedTables.{Beside, beside_of}
+use Rattle.paged_tables.proofs.EntryChanged.{set_on}
+use Rattle.paged_tables.proofs.HomesKept.{words_keep}
+use Rattle.paged_tables.proofs.JoinDone.{join_done}
+use Rattle.paged_tables.proofs.Joining.{join_beside}
 use Rattle.slot_paged.proofs.slot_paged.SlotPaged.set_page.Goals as goal
 
 pub put_joined-requires-clause-near : goal.put_joined-requires-clause-near

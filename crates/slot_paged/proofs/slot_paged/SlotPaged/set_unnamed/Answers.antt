@@ -1,11 +1,11 @@
 use Rattle.std.proofs.Common.{◌≡◌, None, sym, ◌∙◌, ap}
 use Rattle.pager_walk.specs.PagedMaps.{look_at}
-use Rattle.slot_paged.specs.PagedTables.{beside_of}
-use Rattle.slot_paged.specs.SetEntries.{alone_home}
-use Rattle.slot_paged.proofs.BarePointers.{alone_none, alone_some}
-use Rattle.slot_paged.proofs.EntriesFreed.{freed_frees, left_frees}
-use Rattle.slot_paged.proofs.FreedDone.{freed_done}
-use Rattle.slot_paged.proofs.LeftDone.{left_done}
+use Rattle.paged_tables.specs.PagedTables.{beside_of}
+use Rattle.paged_tables.specs.SetEntries.{alone_home}
+use Rattle.paged_tables.proofs.BarePointers.{alone_none, alone_some}
+use Rattle.paged_tables.proofs.EntriesFreed.{freed_frees, left_frees}
+use Rattle.paged_tables.proofs.FreedDone.{freed_done}
+use Rattle.paged_tables.proofs.LeftDone.{left_done}
 use Rattle.slot_paged.proofs.slot_paged.SlotPaged.set_unnamed.Goals as goal
 
 pub put_freed-requires-clause-one : goal.put_freed-requires-clause-one

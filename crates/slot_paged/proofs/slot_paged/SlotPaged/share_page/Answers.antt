@@ -1,8 +1,8 @@
 use Rattle.std.proofs.Common.{refl, sym, subst, arith}
-use Rattle.slot_paged.specs.FiledSteps.{got, had}
-use Rattle.slot_paged.specs.PagedTables.{AreKept, Beside, beside_of}
-use Rattle.slot_paged.proofs.FiledKept.{room_there, share_kept}
-use Rattle.slot_paged.proofs.FiledShares.{name_below}
+use Rattle.paged_tables.specs.FiledSteps.{got, had}
+use Rattle.paged_tables.specs.PagedTables.{AreKept, Beside, beside_of}
+use Rattle.paged_tables.proofs.FiledKept.{room_there, share_kept}
+use Rattle.paged_tables.proofs.FiledShares.{name_below}
 use Rattle.slot_paged.proofs.slot_paged.SlotPaged.share_page.Goals as goal
 
 pub give_share-share-requires-clause-room : goal.give_share-share-requires-clause-room

@@ -6,12 +6,12 @@ use Rattle.page_contracts.specs.Stores.{HomePlace, place, with_word_in}
 use Rattle.plain_pages.specs.References.{stored}
 use Rattle.flat_pages.proofs.HandedOn.{used_within}
 use Rattle.pager_walk.proofs.Looking.{ArePages}
-use Rattle.slot_paged.specs.PagedTables.{AreKept, FitsPages, beside_of, plain_over}
-use Rattle.slot_paged.proofs.Moved.{put_apart, put_kept, put_told}
-use Rattle.slot_paged.proofs.Placed.{placed}
-use Rattle.slot_paged.proofs.PutInto.{put_stays}
-use Rattle.slot_paged.proofs.StillWalked.{knowns_same, put_roots}
-use Rattle.slot_paged.specs.KnownPages.{known_over}
+use Rattle.paged_tables.specs.PagedTables.{AreKept, FitsPages, beside_of, plain_over}
+use Rattle.paged_tables.proofs.Moved.{put_apart, put_kept, put_told}
+use Rattle.paged_tables.proofs.Placed.{placed}
+use Rattle.paged_tables.proofs.PutInto.{put_stays}
+use Rattle.paged_tables.proofs.StillWalked.{knowns_same, put_roots}
+use Rattle.paged_tables.specs.KnownPages.{known_over}
 use Rattle.std.specs.Prelude.{slice_set}
 use Rattle.slot_paged.proofs.slot_paged.SlotPaged.store.Goals as goal
 

@@ -1,7 +1,7 @@
 use Rattle.std.proofs.Common.{◌∙◌, sym, subst}
 use Rattle.page_contracts.specs.Pages.{TouchNeeds}
-use Rattle.slot_paged.specs.PagedTables.{beside_of}
-use Rattle.slot_paged.proofs.Homed.{touch_told, touch_needed}
+use Rattle.paged_tables.specs.PagedTables.{beside_of}
+use Rattle.paged_tables.proofs.Homed.{touch_told, touch_needed}
 use Rattle.slot_paged.proofs.slot_paged.SlotPaged.touch.Goals as goal
 
 pub returns : goal.returns

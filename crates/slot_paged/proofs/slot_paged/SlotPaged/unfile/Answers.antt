@@ -1,10 +1,10 @@
 use Rattle.std.proofs.Common.{◌≤◌, ◌∙◌, None, sym, subst, arith}
 use Rattle.machine_names.specs.Orders.{file_page}
-use Rattle.slot_paged.specs.FiledSteps.{SetsFiled}
-use Rattle.slot_paged.specs.PagedTables.{AreKept, Beside, beside_of}
-use Rattle.slot_paged.specs.PagedTouches.{names_at}
-use Rattle.slot_paged.proofs.FiledKept.{filed_least, left_kept}
-use Rattle.slot_paged.proofs.FilingSteps.{left_step, none_step}
+use Rattle.paged_tables.specs.FiledSteps.{SetsFiled}
+use Rattle.paged_tables.specs.PagedTables.{AreKept, Beside, beside_of}
+use Rattle.paged_tables.specs.PagedTouches.{names_at}
+use Rattle.paged_tables.proofs.FiledKept.{filed_least, left_kept}
+use Rattle.paged_tables.proofs.FilingSteps.{left_step, none_step}
 use Rattle.slot_paged.proofs.slot_paged.SlotPaged.unfile.Goals as goal
 
 pub returns-in_default : goal.returns-in_default

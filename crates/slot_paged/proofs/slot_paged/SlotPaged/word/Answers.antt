@@ -4,11 +4,11 @@ use Rattle.std.specs.Prelude.{slice_index}
 use Rattle.machine_names.specs.declared.names.Kind.TheVariants.{Read, Execute}
 use Rattle.page_homes.specs.declared.homes.Home.{Home}
 use Rattle.page_contracts.specs.Stores.{away_at, place, word_in}
-use Rattle.slot_paged.specs.declared.page_home.PageHome.TheVariants.{At}
-use Rattle.slot_paged.specs.PagedTables.{beside_of}
-use Rattle.slot_paged.specs.PageHomes.{homed_over}
-use Rattle.slot_paged.proofs.Homed.{place_stands, place_tells, word_told}
-use Rattle.slot_paged.proofs.ReadyHomes.{ReadyAt, ready_at, words_here}
+use Rattle.paged_tables.specs.declared.page_home.PageHome.TheVariants.{At}
+use Rattle.paged_tables.specs.PagedTables.{beside_of}
+use Rattle.paged_tables.specs.PageHomes.{homed_over}
+use Rattle.paged_tables.proofs.Homed.{place_stands, place_tells, word_told}
+use Rattle.paged_tables.proofs.ReadyHomes.{ReadyAt, ready_at, words_here}
 use Rattle.slot_paged.proofs.slot_paged.SlotPaged.word.Goals as goal
 
 pub returns : goal.returns
