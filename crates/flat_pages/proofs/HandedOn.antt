@@ -1,12 +1,15 @@
 -- What is asked of the store that the pages stand in, and what that leaves of the pages.
-use Rattle.std.proofs.Common.{◌≡◌, ℕ, ◌+◌, refl, sym, ap, subst}
-use Rattle.page_contracts.specs.Stores.{StoreMeaning, IsUsed, StaysFramed, StaysThere, Ends, Completes, FitsHomes}
+use Rattle.std.proofs.Common.{◌≡◌, ℕ, ◌+◌, is_some, refl, sym, ap, subst}
+use Rattle.std.specs.Option.{option_map}
+use Rattle.page_contracts.specs.Stores.{StoreMeaning, IsUsed, StaysFramed, StaysThere, Ends, Completes, FitsHomes, away_at}
 use Rattle.page_contracts.specs.Pages.{MayLose, OnlyUses, StaysSame, StaysPut}
 use Rattle.page_contracts.specs.declared.answers.Need.{Need}
 use Rattle.page_contracts.specs.declared.store.Completed.{Completed}
 use Rattle.flat_tables.specs.SlotTables.{Tables, plain_of}
-use Rattle.flat_tables.specs.SlotTouches.{home_named, touch_of_place, scene_of}
-use Rattle.flat_tables.specs.HeldMaps.{living_of}
+use Rattle.flat_tables.specs.SlotTouches.{home_named, touch_of_place, touch_with, scene_of, scene_with}
+use Rattle.flat_tables.specs.TableSteps.{tables_of}
+use Rattle.flat_tables.specs.declared.map_tables.MapTables.{MapTables}
+use Rattle.flat_tables.specs.HeldMaps.{index_of, living_of}
 use Rattle.flat_tables.specs.Serials.{serial_of}
 use Rattle.flat_pages.specs.SlotMeaning.{filed_in, slots_meaning, within, place_along}
 
@@ -72,4 +75,24 @@ module _ {P S : Type 0} (store : StoreMeaning S) (part : P → S) where
       plain = λ i d. plain_of (same i) d;
       put = stays_put;
       loses = loses;
+    }
+
+-- where words alone are others, and nothing comes or goes, pages stay put
+pub stays_through : {P S : Type 0} (store : StoreMeaning S) (part : P → S) (mt : P → MapTables) (p q : P) → mt q ≡ mt p → away_at (store.homes (part q)) ≡ away_at (store.homes (part p)) → store.spare (part q) ≡ store.spare (part p) → store.found (part q) ≡ store.found (part p)
+    → StaysPut (slots_meaning store part (λ x. tables_of (store.homes (part x)) (mt x))) p q
+stays_through store part mt p q same absent spare found =
+    let homes = store.homes (part p) in
+    record {
+      touched = λ i. touch_with (absent i) (tables_of homes (same i)) (scene_with (absent i) (same i).names.items (spare i));
+      scene = λ i. scene_with (absent i) (same i).names.items (spare i);
+      space = λ i f. option_map (λ k. record { 0 = k }) (index_of (same i).maps.held.items f);
+      place = λ i. place_along (found i) (tables_of homes (same i));
+      filed = λ i. filed_in (tables_of homes (same i));
+      map_homes = refl;
+      page_homes = λ i. home_named (same i).names.items;
+      lives = λ i f. is_some (index_of (same i).maps.held.items f);
+      forks = λ i. living_of (same i).maps.held.items;
+      serials = λ i. serial_of (same i).serials;
+      count = λ i. (same i).taken + (same i).living;
+      most = λ i. (same i).limit;
     }

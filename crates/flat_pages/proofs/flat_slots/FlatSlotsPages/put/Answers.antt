@@ -5,11 +5,10 @@ use Rattle.flat_tables.specs.SlotTables.{plain_of, AreTables}
 use Rattle.page_contracts.specs.Stores.{away_at}
 use Rattle.flat_tables.specs.TableSteps.{tables_of}
 use Rattle.flat_pages.proofs.Settling.{sized_of}
-use Rattle.flat_tables.specs.SlotTouches.{scene_with, touch_with}
-use Rattle.flat_pages.specs.SlotMeaning.{place_along}
 use Rattle.flat_pages.proofs.Settling.{fits_set}
 use Rattle.flat_pages.proofs.Telling.{tables_told}
 use Rattle.flat_pages.proofs.Meeting.{reached, reached_taken, ready_words}
+use Rattle.flat_pages.proofs.HandedOn.{stays_through}
 use Rattle.flat_pages.proofs.Putting.{replaced, put_away, put_tables, stored_at}
 use Rattle.flat_tables.specs.SlotTables.{AreSized}
 use Rattle.page_contracts.proofs.Losing.{loses_used}
@@ -53,20 +52,7 @@ returns-in-Some-clause-stays g c =
     let x = ready_words t s.agree c.args.at h r (g.S.Store.means.spare s.store) Write c.requires.ready in
     let absent = ap away_at c.put-is_put.ensures.homes ∙ put_away t s.agree h.0 x.0 x.1 c.args.offset c.args.word in
     let framed = c.put-is_put.ensures.used.framed in
-    record {
-      touched = λ i. touch_with (absent i) t (scene_with (absent i) t.names (framed.spare i));
-      scene = λ i. scene_with (absent i) t.names (framed.spare i);
-      space = refl;
-      place = λ i. place_along (framed.found i) t;
-      filed = refl;
-      map_homes = refl;
-      page_homes = refl;
-      lives = refl;
-      forks = refl;
-      serials = refl;
-      count = refl;
-      most = refl;
-    }
+    stays_through g.S.Store.means (λ p. p.store) (λ p. p.tables) s _ refl absent framed.spare framed.found
 
 pub returns-in-Some-clause-loses : goal.returns-in-Some-clause-loses
 returns-in-Some-clause-loses g c = loses_used g.S.Store.means c.args.self.now.store c.put-is_put.new.self c.in-Some.home.0 c.put-is_put.ensures.used

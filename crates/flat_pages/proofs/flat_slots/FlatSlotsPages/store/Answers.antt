@@ -7,14 +7,12 @@ use Rattle.flat_tables.specs.TableSteps.{tables_of}
 use Rattle.flat_pages.proofs.Settling.{sized_of}
 use Rattle.std.proofs.Common.{◌/◌, ◌%◌}
 use Rattle.flat_tables.specs.SlotTables.{AreSized}
-use Rattle.flat_tables.specs.SlotTouches.{scene_with, touch_with}
-use Rattle.flat_pages.specs.SlotMeaning.{place_along}
 use Rattle.flat_pages.proofs.Settling.{fits_set}
 use Rattle.flat_pages.proofs.Telling.{tables_told}
 use Rattle.flat_pages.proofs.FoundPages.{stands}
 use Rattle.flat_pages.proofs.Putting.{replaced, put_away, put_tables, stored_at}
 use Rattle.page_contracts.proofs.Losing.{loses_used}
-use Rattle.flat_pages.proofs.HandedOn.{used_within}
+use Rattle.flat_pages.proofs.HandedOn.{stays_through, used_within}
 use Rattle.flat_pages.proofs.flat_slots.FlatSlotsPages.store.Goals as goal
 
 pub invariant_of-self : goal.invariant_of-self
@@ -46,20 +44,7 @@ returns-clause-stays g c =
     let x = stands g.S.Store.means (λ p. p.store) (λ p. p.tables) s s.agree (g.met.S.Store.sound s.store) c.args.space c.args.address c.args.found c.requires.place c.requires.space.fork c.requires.space.is in
     let absent = ap away_at (c.store.ensures.homes x.home.0 x.spots) ∙ put_away t s.agree x.home.0 x.words x.holds (c.args.address % 512) c.args.word in
     let used = c.store.ensures.used x.home.0 x.spots in
-    record {
-      touched = λ i. touch_with (absent i) t (scene_with (absent i) t.names (used.framed.spare i));
-      scene = λ i. scene_with (absent i) t.names (used.framed.spare i);
-      space = refl;
-      place = λ i. place_along (used.framed.found i) t;
-      filed = refl;
-      map_homes = refl;
-      page_homes = refl;
-      lives = refl;
-      forks = refl;
-      serials = refl;
-      count = refl;
-      most = refl;
-    }
+    stays_through g.S.Store.means (λ p. p.store) (λ p. p.tables) s _ refl absent used.framed.spare used.framed.found
 
 pub returns-clause-loses : goal.returns-clause-loses
 returns-clause-loses g c =
