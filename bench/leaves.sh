@@ -20,7 +20,7 @@ grows='file_dir create, delete=create moves the names behind the new one'
 beside='slot_paged find, load=flat_pages find, load=2
 slot_paged find, load along four=flat_pages find, load along four=2'
 timed='number_set number_map tournament page_files jfn_table file_dir frame_order drum_queue frame_table share_table script_lang tty_lines exec_cmd'
-paged='page_contracts page_residence paged_store flat_tables flat_pages pager_walk paged_tables slot_paged known_slots'
+paged='page_contracts page_residence paged_store fork_maps flat_tables flat_pages pager_walk paged_tables slot_paged known_slots'
 
 mkdir -p "$work/crates/leaf_speed/src"
 for crate in word36 outside page_homes machine_names script_texts plain_pages plain_files plain_typing $timed $paged; do

@@ -18,7 +18,7 @@ command -v valgrind >/dev/null || {
 }
 
 below='word36 outside page_homes machine_names plain_pages plain_files number_set number_map tournament frame_order page_files'
-pages='drum_queue frame_table share_table page_contracts page_residence paged_store flat_tables flat_pages pager_walk paged_tables slot_paged known_slots'
+pages='drum_queue frame_table share_table page_contracts page_residence paged_store fork_maps flat_tables flat_pages pager_walk paged_tables slot_paged known_slots'
 speed=$work/crates/page_speed
 mkdir -p "$speed/src" "$speed/proofs/is_away" "$speed/proofs/complete" "$speed/proofs/look" "$speed/proofs/paged"
 for crate in $below $pages; do

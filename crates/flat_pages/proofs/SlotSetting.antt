@@ -12,7 +12,7 @@ use Rattle.plain_pages.specs.declared.map.MapEntry.{MapEntry}
 use Rattle.plain_pages.specs.declared.map.MapEntry.TheVariants as map_entry
 use Rattle.std.specs.FinMap as fin
 use Rattle.machine_names.specs.declared.names.FileNo.{FileNo}
-use Rattle.machine_names.specs.Orders.{file_page}
+use Rattle.machine_names.specs.Orders.{file_page, same_fork}
 use Rattle.page_homes.specs.declared.homes.Home.{Home}
 use Rattle.flat_tables.proofs.FiledHomes.{get_filed}
 use Rattle.plain_pages.specs.declared.map.NewEntry.{NewEntry}
@@ -30,7 +30,7 @@ use Rattle.flat_tables.specs.declared.held_entry.HeldEntry.TheVariants.{Empty, P
 use Rattle.flat_tables.specs.declared.held_entry.Link.{Link}
 use Rattle.flat_tables.specs.declared.held_map.HeldMap.{HeldMap}
 use Rattle.flat_tables.specs.declared.map_tables.MapTables.{MapTables}
-use Rattle.flat_tables.specs.HeldMaps.{AreHeld, fork_at, held_entry, with_entry, index_of, is_map_of, one_later, living_of, entry_of, name_of}
+use Rattle.flat_tables.specs.HeldMaps.{AreHeld, fork_at, held_entry, with_entry, index_of, one_later, living_of, entry_of, name_of}
 use Rattle.flat_tables.specs.Walks.{slot_of}
 use Rattle.flat_tables.specs.SlotTables.{Tables, plain_of}
 use Rattle.flat_pages.specs.SlotMeaning.{seen_in, seen_entry}
@@ -54,8 +54,8 @@ index_same [] [] s f = refl
 index_same [] (y ∷ ys) s f = absurd (omega (arith, s.many))
 index_same (x ∷ xs) [] s f = absurd (omega (arith, s.many))
 index_same (x ∷ xs) (y ∷ ys) s f =
-    ap (λ (o : Option ForkName). cond (option_map_or (Rattle.machine_names.specs.Orders.same_fork f) o false) (Some 0) (one_later (index_of xs f))) (s.each 0)
-    ∙ ap (λ o. cond (is_map_of y f) (Some 0) (one_later o)) (index_same xs ys (later_forks x y xs ys s) f)
+    ap (λ (o : Option ForkName). cond (option_map_or (same_fork f) o false) (Some 0) (one_later (index_of xs f))) (s.each 0)
+    ∙ ap (λ o. cond (option_map_or (same_fork f) y.fork false) (Some 0) (one_later o)) (index_same xs ys (later_forks x y xs ys s) f)
 
 pub living_same : (xs ys : List HeldMap) → SameForks xs ys → (t : Tty) → living_of xs t ≡ living_of ys t
 living_same [] [] s t = refl

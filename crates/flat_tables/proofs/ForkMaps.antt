@@ -1,71 +1,48 @@
--- Which map is whose, and the maps that those in memory are.
-use Rattle.std.proofs.Common.{◌≡◌, ◌≢◌, ◌⊎◌, inl, inr, ℕ, zero, suc, ◌<◌, List, [], ◌∷◌, true, false, Option, None, Some, length, refl, sym, ◌∙◌, ap, arith}
-use Rattle.std.specs.Prelude.{◌==◌}
-use Rattle.std.specs.Option.{option_map_or}
-use Rattle.std.proofs.lemmas.Bool.Decides.{eqb_tells}
+-- Which map is whose, of the maps in memory.
+use Rattle.std.proofs.Common.{◌≡◌, ◌≢◌, ℕ, ◌+◌, ◌*◌, ◌<◌, ◌≤◌, List, [], false, Option, None, Some, is_some, length, refl}
+use Rattle.std.specs.Prelude.{slice_set}
 use Rattle.machine_names.specs.declared.names.ForkName.{ForkName}
-use Rattle.machine_names.specs.Orders.{same_fork}
+use Rattle.machine_names.specs.declared.names.TheConstants.{LAST_SERIAL, TERMINALS}
+use Rattle.fork_maps.specs.MapNumbers.{AreListed, with_number}
+use Rattle.fork_maps.proofs.Listing.{begun_listed}
+use Rattle.fork_maps.proofs.ForkMaps as forks
+pub use Rattle.fork_maps.proofs.ForkMaps.{SameFork, fork_tells}
+use Rattle.flat_tables.specs.declared.held_entry.HeldEntry.{HeldEntry}
 use Rattle.flat_tables.specs.declared.held_map.HeldMap.{HeldMap}
-use Rattle.flat_tables.specs.HeldMaps.{fork_at, is_map_of, index_of}
+use Rattle.flat_tables.specs.HeldMaps.{first_map, fork_at, index_of}
 
-abbrev pub SameFork : ForkName → ForkName → Type 0
-SameFork f g = ((same_fork f g ≡ true) × (f ≡ g)) ⊎ ((same_fork f g ≡ false) × (f ≢ g))
+abbrev whose : HeldMap → Option ForkName
+whose m = m.fork
 
-pub fork_tells : (f g : ForkName) → SameFork f g
-fork_tells f g = by (eqb_tells f.tty.0 g.tty.0) (eqb_tells f.serial g.serial)
-  where
-    by : (((f.tty.0 == g.tty.0) ≡ true) × (f.tty.0 ≡ g.tty.0)) ⊎ (((f.tty.0 == g.tty.0) ≡ false) × (f.tty.0 ≢ g.tty.0))
-        → (((f.serial == g.serial) ≡ true) × (f.serial ≡ g.serial)) ⊎ (((f.serial == g.serial) ≡ false) × (f.serial ≢ g.serial)) → SameFork f g
-    by (inl t) (inl u) = inl (rw (t.0, u.0) refl, λ i. record { tty = record { 0 = t.1 i }; serial = u.1 i })
-    by (inl t) (inr u) = inr (rw (t.0, u.0) refl, λ e. u.1 (ap (λ (x : ForkName). x.serial) e))
-    by (inr t) u = inr (rw t.0 refl, λ e. t.1 (ap (λ (x : ForkName). x.tty.0) e))
-
--- a map is a fork's, or it is not
-map_tells : (m : HeldMap) (f : ForkName) → ((is_map_of m f ≡ true) × (m.fork ≡ Some f)) ⊎ ((is_map_of m f ≡ false) × (m.fork ≢ Some f))
-map_tells m f = by m.fork
-  where
-    by : (o : Option ForkName) → ((option_map_or (same_fork f) o false ≡ true) × (o ≡ Some f)) ⊎ ((option_map_or (same_fork f) o false ≡ false) × (o ≢ Some f))
-    by None = inr (refl, λ e. absurd (cc e))
-    by (Some g) = elim (fork_tells f g) [
-      | inl t ↦ inl (t.0, ap Some (sym t.1))
-      | inr t ↦ inr (t.0, λ e. t.1 (let same : g ≡ f = cc e in sym same))
-    ]
+abbrev past : HeldMap
+past = record { fork = None; entries = [] }
 
 abbrev pub Searched : List HeldMap → ForkName → Type 0
-Searched maps f = ((k : ℕ) × (index_of maps f ≡ Some k) × (fork_at maps k ≡ Some f)) ⊎ ((index_of maps f ≡ None) × ((k : ℕ) → fork_at maps k ≢ Some f))
+Searched = forks.Searched whose past
 
--- a fork has a map with a number, or none
 pub searched : (maps : List HeldMap) (f : ForkName) → Searched maps f
-searched [] f = inr (refl, λ k e. absurd (cc e))
-searched (m ∷ maps) f = by (map_tells m f) (searched maps f)
-  where
-    behind : m.fork ≢ Some f → ((k : ℕ) → fork_at maps k ≢ Some f) → (k : ℕ) → fork_at (m ∷ maps) k ≢ Some f
-    behind ne none zero e = ne e
-    behind ne none (suc k) e = none k e
-
-    by : ((is_map_of m f ≡ true) × (m.fork ≡ Some f)) ⊎ ((is_map_of m f ≡ false) × (m.fork ≢ Some f)) → Searched maps f → Searched (m ∷ maps) f
-    by (inl t) r = inl (0, rw t.0 refl, t.1)
-    by (inr t) (inl r) = inl (suc r.0, rw (t.0, r.1) refl, r.2)
-    by (inr t) (inr r) = inr (rw (t.0, r.0) refl, behind t.1 r.1)
+searched = forks.searched whose past refl
 
 pub index_none : (maps : List HeldMap) (f : ForkName) → ((k : ℕ) → fork_at maps k ≢ Some f) → index_of maps f ≡ None
-index_none maps f none = elim (searched maps f) [ inl r ↦ absurd (none r.0 r.2) | inr r ↦ r.0 ]
+index_none = forks.index_none whose past refl
 
 pub index_fork : (maps : List HeldMap) (f : ForkName) (k : ℕ) → index_of maps f ≡ Some k → fork_at maps k ≡ Some f
-index_fork maps f k e = elim (searched maps f) [
-  | inl r ↦ let same : r.0 ≡ k = (let z : Some r.0 ≡ Some k = sym r.1 ∙ e in cc z) in ap (fork_at maps) (sym same) ∙ r.2
-  | inr r ↦ absurd (let z : None ≡ Some k = sym r.0 ∙ e in cc z)
-]
+index_fork = forks.index_fork whose past refl
 
 abbrev pub Once : List HeldMap → Type 0
-Once maps = (j k : ℕ) (f : ForkName) → fork_at maps j ≡ Some f → fork_at maps k ≡ Some f → j ≡ k
+Once = forks.Once whose past
 
--- the map that is a fork's is the one with its number
 pub index_is : (maps : List HeldMap) → Once maps → (f : ForkName) (k : ℕ) → fork_at maps k ≡ Some f → index_of maps f ≡ Some k
-index_is maps once f k e = elim (searched maps f) [ inl r ↦ r.1 ∙ ap Some (once r.0 k f r.2 e) | inr r ↦ absurd (r.1 k e) ]
+index_is = forks.index_is whose past refl
 
--- a fork's map is there
 pub fork_within : (maps : List HeldMap) (k : ℕ) (f : ForkName) → fork_at maps k ≡ Some f → k < length maps
-fork_within [] k f e = absurd (cc e)
-fork_within (m ∷ maps) zero f e = omega arith
-fork_within (m ∷ maps) (suc k) f e = omega (arith, fork_within maps k f e)
+fork_within = forks.fork_within whose past refl
+
+-- a map becomes that of a fork that had none
+pub listed_begun : (maps : List HeldMap) (numbers : List ℕ) → AreListed (fork_at maps) numbers → length numbers ≡ TERMINALS * (LAST_SERIAL + 1) → (k : ℕ) (f : ForkName) (entries : List HeldEntry) → k < length maps → is_some (index_of maps f) ≡ false → first_map f.tty ≤ k
+    → AreListed (fork_at (slice_set maps k (record { fork = Some f; entries = entries }))) (with_number numbers f k)
+listed_begun maps numbers n size k f entries within absent from = begun_listed whose past refl maps numbers n k (record { fork = Some f; entries = entries }) within size f refl (none (index_of maps f) absent) from
+  where
+    none : (o : Option ℕ) → is_some o ≡ false → o ≡ None
+    none None e = refl
+    none (Some j) e = absurd (cc e)

@@ -9,4 +9,3 @@ pub mod Making
 pub mod Beginning
 pub mod Opening
 pub mod Looking
-pub mod Numbering

@@ -17,7 +17,7 @@ use Rattle.flat_tables.specs.declared.held_entry.HeldEntry.{HeldEntry}
 use Rattle.flat_tables.specs.declared.held_entry.HeldEntry.TheVariants.{Empty, Page, Follows}
 use Rattle.flat_tables.specs.declared.held_entry.Link.{Link}
 use Rattle.flat_tables.specs.declared.held_map.HeldMap.{HeldMap}
-use Rattle.flat_tables.specs.declared.held_map.TheConstants.{MOST_MAPS}
+use Rattle.fork_maps.specs.declared.map_numbers.TheConstants.{MOST_MAPS}
 use Rattle.flat_tables.specs.declared.look.Look.{Look}
 use Rattle.flat_tables.specs.HeldMaps.{AreHeld, no_page, free_map, map_at, fork_at, held_entry, with_entry, followers}
 use Rattle.flat_tables.specs.Looks.{AreLooked, uses_of, no_uses, no_look, no_looks, past_look, look_of, look_at, row_at, key_of, key_at, use_number}

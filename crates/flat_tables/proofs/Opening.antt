@@ -19,7 +19,7 @@ use Rattle.page_contracts.specs.Stores.{HomePlace, free, is_free, is_taken, cont
 use Rattle.flat_tables.specs.declared.held_entry.HeldEntry.{HeldEntry}
 use Rattle.flat_tables.specs.declared.held_entry.HeldEntry.TheVariants.{Empty, Follows}
 use Rattle.flat_tables.specs.declared.held_map.HeldMap.{HeldMap}
-use Rattle.flat_tables.specs.declared.held_map.TheConstants.{MOST_MAPS}
+use Rattle.fork_maps.specs.declared.map_numbers.TheConstants.{MOST_MAPS}
 use Rattle.flat_tables.specs.declared.page_serials.PageSerials.{PageSerials}
 use Rattle.flat_tables.specs.Serials.{serial_of}
 use Rattle.flat_tables.specs.HeldMaps.{no_page, free_map, map_at, fork_at, index_of, maps_from, maps_held, entries_total, points_at, living_of, AreHeld}

@@ -14,13 +14,14 @@ use Rattle.plain_pages.specs.declared.map.MapEntry.{MapEntry}
 use Rattle.plain_pages.specs.declared.map.MapEntry.TheVariants as entry
 use Rattle.plain_pages.specs.PlainPages.{Map, Maps}
 use Rattle.plain_pages.specs.Maps.{full_access}
-use Rattle.machine_names.specs.Orders.{same_fork}
+use Rattle.fork_maps.specs.ForkMaps as forks
+pub use Rattle.fork_maps.specs.ForkMaps.{first_map, one_later}
 use Rattle.flat_tables.specs.declared.held_entry.HeldEntry.{HeldEntry}
 use Rattle.flat_tables.specs.declared.held_entry.HeldEntry.TheVariants.{Empty, Page, Follows}
 use Rattle.flat_tables.specs.declared.held_entry.EntryAt.{EntryAt}
 use Rattle.flat_tables.specs.declared.held_entry.Link.{Link}
 use Rattle.flat_tables.specs.declared.held_map.HeldMap.{HeldMap}
-use Rattle.flat_tables.specs.declared.held_map.TheConstants.{MOST_MAPS}
+use Rattle.fork_maps.specs.declared.map_numbers.TheConstants.{MOST_MAPS}
 
 -- entries that name no page
 unfoldable pub no_page : List HeldEntry
@@ -54,22 +55,9 @@ entry_set m page e = record m { entries = slice_set m.entries page e }
 abbrev pub with_entry : List HeldMap → EntryAt → HeldEntry → List HeldMap
 with_entry maps at e = slice_set maps at.map (entry_set (map_at maps at.map) at.page e)
 
--- whether a map is that of a fork
-abbrev pub is_map_of : HeldMap → ForkName → Bool
-is_map_of m f = option_map_or (same_fork f) m.fork false
-
-abbrev pub one_later : Option ℕ → Option ℕ
-one_later None = None
-one_later (Some k) = Some (suc k)
-
 -- the number of the first map of a fork
 abbrev pub index_of : List HeldMap → ForkName → Option ℕ
-index_of [] f = None
-index_of (m ∷ maps) f = if is_map_of m f then Some 0 else one_later (index_of maps f)
-
--- the number of the first map that a terminal's forks may have
-abbrev pub first_map : Tty → ℕ
-first_map t = t.0 * MOST_FORKS
+index_of = forks.index_of (λ m. m.fork)
 
 -- Each fork has one map, among those of its terminal. The maps of no fork name no page.
 pub record AreHeld (maps : List HeldMap) : Type 0 where

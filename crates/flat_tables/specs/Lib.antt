@@ -2,7 +2,6 @@ pub mod Serials
 pub mod HeldMaps
 pub mod Walks
 pub mod Looks
-pub mod MapNumbers
 pub mod SlotTables
 pub mod SlotTouches
 pub mod TableSteps

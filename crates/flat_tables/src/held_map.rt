@@ -4,17 +4,30 @@ ghost use Rattle.flat_tables.specs.HeldMaps.{AreHeld, no_page, free_map, map_at,
 
 use crate::chain_walk::FULL_ACCESS;
 use crate::held_entry::{EntryAt, HeldEntry, Link};
+use fork_maps::{ForkMap, MOST_MAPS};
 use machine_names::{ForkName, MOST_FORKS, SPACE_PAGES, TERMINALS, Tty};
 use std::alloc::{AllocError, Global};
-
-/// How many maps there is room for: those of the forks that a terminal may have stand in a row.
-pub const MOST_MAPS: u32 = TERMINALS as u32 * MOST_FORKS as u32;
 
 /// The map of a fork, or of none.
 #[derive(Drop)]
 pub struct HeldMap {
     pub fork: Option<ForkName>,
     pub entries: [HeldEntry; SPACE_PAGES],
+}
+
+impl ForkMap for HeldMap {
+    ghost use Rattle.std.proofs.Common.{None, [], refl};
+
+    ghost whose = { λ m. m.fork };
+
+    ghost past = { record { fork = None; entries = [] } };
+
+    #[inline(always)]
+    fn fork(&self) -> Option<ForkName> {
+        self.fork
+    }
+
+    ghost nobody = { refl };
 }
 
 // Entries that name no page.
@@ -57,20 +70,6 @@ pub fn set_held(maps: &mut Vec<HeldMap>, at: EntryAt, entry: HeldEntry)
 {
     let map = &mut maps[at.map as usize];
     map.entries[at.page as usize] = entry;
-}
-
-/// The number of a fork's map, looked for among those of its terminal. None exactly where the fork has none.
-pub fn map_of(maps: &Vec<HeldMap>, fork: ForkName) -> Option<u32>
-    requires held { AreHeld maps.now.items }
-    ensures { result ≡ index_of maps.now.items fork }
-{
-    let first = fork.tty.0 as u32 * MOST_FORKS as u32;
-    for number in first..first + MOST_FORKS as u32 {
-        if number < MOST_MAPS && maps[number as usize].fork == Some(fork) {
-            return Some(number);
-        }
-    }
-    None
 }
 
 /// The number of a map of no fork, among those of a terminal.

@@ -1,14 +1,15 @@
 // The maps of forks, and what looks at them go by.
 ghost use Rattle.std.specs.Prelude.{◌≡◌, ◌≤◌, ◌<◌, ◌+◌, None, IfOk, length, replicate, map};
-ghost use Rattle.flat_tables.specs.HeldMaps.{free_map, first_map};
-ghost use Rattle.flat_tables.specs.MapNumbers.{AreNumbered, name_index, with_number};
+ghost use Rattle.flat_tables.specs.HeldMaps.{fork_at};
+ghost use Rattle.fork_maps.specs.MapNumbers.{AreListed};
 ghost use Rattle.flat_tables.specs.Looks.{AreLooked, IsCode, key_of, no_looks, look_of};
 
 use crate::chain_walk::{CHAIN, Use, home_of};
 use crate::held_entry::{EntryAt, HeldEntry};
-use crate::held_map::{HeldMap, MOST_MAPS, following, free_maps, map_of, set_held};
+use crate::held_map::{HeldMap, following, free_maps, set_held};
 use crate::look::{Look, NO_LOOK, look_of};
-use machine_names::{ForkName, LAST_SERIAL, MOST_FORKS, SPACE_PAGES, TERMINALS};
+use fork_maps::{MOST_MAPS, MapNumbers};
+use machine_names::{ForkName, MOST_FORKS, SPACE_PAGES};
 use page_homes::Home;
 use std::alloc::{AllocError, Global};
 
@@ -18,65 +19,19 @@ pub struct KeptMaps {
     pub held: Vec<HeldMap>,
     looks: Vec<[Look; SPACE_PAGES]>,
     keys: Vec<u64>,
-    // For each name the number that its map has, or had, among those of its terminal.
-    numbers: Vec<u8>,
+    numbers: MapNumbers,
     ghost looked: { AreLooked held.items looks.items keys.items },
-    ghost numbered: { AreNumbered held.items numbers.items },
+    ghost numbered: { AreListed (fork_at held.items) numbers.numbers.items },
 }
-
-// How many serials a terminal has. No fork has serial 0.
-const SERIALS: u32 = LAST_SERIAL + 1;
-
-// How many names forks have.
-const NAMES: u32 = TERMINALS as u32 * SERIALS;
 
 // Beside a map of no fork.
 const NO_KEY: u64 = u64::MAX;
-
-// Where a name stands among those of all terminals. None where no table has room for it.
-fn name_index(name: ForkName) -> Option<usize>
-    ensures { result ≡ name_index name }
-{
-    if name.tty.0 < TERMINALS && name.serial <= LAST_SERIAL {
-        Some((u32::from(name.tty.0) * SERIALS + name.serial) as usize)
-    } else {
-        None
-    }
-}
-
-// Numbers of maps for so many names, which have none.
-fn no_numbers(alloc: Global, names: u32) -> Result<Vec<u8>, AllocError>
-    ensures { IfOk result (λ v. v.items ≡ replicate names 0) }
-{
-    vec![in alloc; 0; names as usize]
-}
-
-// The numbers of the maps of all names, where no map is a fork's.
-fn free_numbers(alloc: Global) -> Result<Vec<u8>, AllocError>
-    ensures { IfOk result (λ v. AreNumbered (replicate MOST_MAPS free_map) v.items) }
-{
-    let numbers = no_numbers(alloc, NAMES)?;
-    Ok(numbers)
-}
 
 // What is kept beside maps of no fork.
 fn no_keys(alloc: Global) -> Result<Vec<u64>, AllocError>
     ensures { IfOk result (λ v. v.items ≡ replicate MOST_MAPS (key_of None)) }
 {
     vec![in alloc; NO_KEY; MOST_MAPS as usize]
-}
-
-// The map with a number becomes that of a name.
-fn set_number(numbers: &mut Vec<u8>, name: ForkName, number: u32)
-    requires names { length numbers.old.items ≡ NAMES }
-    requires from { first_map name.tty ≤ number }
-    requires below { number < first_map name.tty + MOST_FORKS }
-    ensures { numbers.new.items ≡ with_number numbers.old.items name number }
-{
-    if let Some(index) = name_index(name) {
-        let first = u32::from(name.tty.0) * u32::from(MOST_FORKS);
-        numbers[index] = (number - first) as u8;
-    }
 }
 
 // The number of no home.
@@ -125,7 +80,7 @@ fn row_of(number: u32, entries: &[HeldEntry; SPACE_PAGES]) -> [Look; SPACE_PAGES
 impl KeptMaps {
     ghost use Rattle.std.specs.Prelude.{◌≡◌, ◌<◌, ◌≤◌, ◌+◌, false, is_some, None, Some, IfOk, IfSome, IsSome, length, replicate, slice_set};
     ghost use Rattle.std.specs.Option.{option_and_then, unwrap_or};
-    ghost use Rattle.flat_tables.specs.HeldMaps.{AreHeld, map_at, fork_at, index_of, with_entry, followers};
+    ghost use Rattle.flat_tables.specs.HeldMaps.{AreHeld, free_map, first_map, map_at, fork_at, index_of, with_entry, followers};
     ghost use Rattle.flat_tables.specs.Walks.{walk, walk_within, ready_home};
 
     /// Maps of no fork, as many as there is room for.
@@ -135,7 +90,7 @@ impl KeptMaps {
         let held = free_maps(alloc)?;
         let looks = no_rows(alloc)?;
         let keys = no_keys(alloc)?;
-        let numbers = free_numbers(alloc)?;
+        let numbers = MapNumbers::boot(alloc)?;
         Ok(KeptMaps {
             held,
             looks,
@@ -163,7 +118,7 @@ impl KeptMaps {
         requires below { number < first_map fork.tty + MOST_FORKS }
         ensures { self.new.held.items ≡ slice_set self.old.held.items number (record { fork = Some fork; entries = (map_at self.old.held.items number).entries }) }
     {
-        set_number(&mut self.numbers, fork, number);
+        self.numbers.set(fork, number);
         let map = &mut self.held[number as usize];
         map.fork = Some(fork);
         self.keys[number as usize] = u64::from(fork.serial);
@@ -177,7 +132,7 @@ impl KeptMaps {
         requires below { number < first_map fork.tty + MOST_FORKS }
         ensures { self.new.held.items ≡ slice_set self.old.held.items number (record { fork = Some fork; entries = followers serial near }) }
     {
-        set_number(&mut self.numbers, fork, number);
+        self.numbers.set(fork, number);
         let entries = following(serial, near);
         self.looks[number as usize] = row_of(number, &entries);
         let map = &mut self.held[number as usize];
@@ -201,14 +156,7 @@ impl KeptMaps {
         requires held { AreHeld self.now.held.items }
         ensures { result ≡ index_of self.now.held.items fork }
     {
-        let Some(index) = name_index(fork) else {
-            return map_of(&self.held, fork);
-        };
-        let number = u32::from(fork.tty.0) * u32::from(MOST_FORKS) + u32::from(self.numbers[index]);
-        if number < MOST_MAPS && self.held[number as usize].fork == Some(fork) {
-            return Some(number);
-        }
-        None
+        self.numbers.map_of(&self.held, fork)
     }
 
     /// The number of a fork's map, or 0 where the fork has none.

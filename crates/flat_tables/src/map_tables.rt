@@ -6,7 +6,7 @@ ghost use Rattle.page_contracts.specs.Stores.{HomePlace, free};
 ghost use Rattle.machine_names.specs.declared.names.TheConstants.{TERMINALS, MOST_FORKS};
 ghost use Rattle.flat_tables.specs.Serials.{serial_of, with_next};
 ghost use Rattle.plain_pages.specs.PlainPages.{first_serials};
-ghost use Rattle.flat_tables.specs.declared.held_map.TheConstants.{MOST_MAPS};
+ghost use Rattle.fork_maps.specs.declared.map_numbers.TheConstants.{MOST_MAPS};
 ghost use Rattle.flat_tables.specs.HeldMaps.{free_map, AreHeld, map_at, followers, held_entry, with_entry, index_of, first_map, entry_of, name_of};
 ghost use Rattle.flat_tables.specs.SlotTables.{share_of};
 ghost use Rattle.flat_tables.specs.SlotTouches.{walk_of, is_alone, has_room};

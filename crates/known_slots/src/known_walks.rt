@@ -1,7 +1,7 @@
 // What is known of walks.
 ghost use Rattle.std.specs.Prelude.{◌≡◌, ◌*◌, ◌+◌, IfOk, length, replicate};
 ghost use Rattle.machine_names.specs.declared.names.TheConstants.{SPACE_PAGES};
-ghost use Rattle.pager_walk.specs.declared.map_pages.TheConstants.{MOST_MAPS};
+ghost use Rattle.fork_maps.specs.declared.map_numbers.TheConstants.{MOST_MAPS};
 ghost use Rattle.known_slots.specs.WalkTimes.{AreDated, unknown_row};
 
 use machine_names::SPACE_PAGES;

@@ -16,12 +16,11 @@ use Rattle.share_table.specs.declared.shares.Share.{Share}
 use Rattle.share_table.specs.declared.shares.SharedPage.{SharedPage}
 use Rattle.plain_pages.proofs.Whole.{no_values}
 use Rattle.share_table.specs.Shares.{Shares, page_at}
-use Rattle.flat_tables.specs.declared.held_map.TheConstants.{MOST_MAPS as MOST_HELD}
 use Rattle.flat_tables.specs.HeldMaps.{free_map}
 use Rattle.flat_tables.specs.SlotTables.{Tables as FlatTables, AreTables, filed_total, is_at, plain_of, share_of}
 use Rattle.flat_tables.specs.Serials.{serial_of}
 use Rattle.flat_tables.proofs.Opening.{low_serial, opened, opened_plain, opened_tables}
-use Rattle.pager_walk.specs.declared.map_pages.TheConstants.{MOST_MAPS}
+use Rattle.fork_maps.specs.declared.map_numbers.TheConstants.{MOST_MAPS}
 use Rattle.pager_walk.specs.MapPages.{index_of, no_map, one_later}
 use Rattle.pager_walk.specs.PagedMaps.{Tables, AreRooted, FitsMaps, name_at}
 use Rattle.paged_tables.specs.MapsInMemory.{map_held, maps_in_memory}
@@ -48,7 +47,7 @@ maps_free : (t : Tables) (words : ℕ → Option (List ℕ)) (n : ℕ) → map (
 maps_free t words zero = refl
 maps_free t words (suc n) = ap (λ ms. free_map ∷ ms) (maps_free t words n)
 
-held_free : (t : Tables) (words : ℕ → Option (List ℕ)) → t.maps ≡ replicate MOST_MAPS no_map → maps_in_memory t words ≡ replicate MOST_HELD free_map
+held_free : (t : Tables) (words : ℕ → Option (List ℕ)) → t.maps ≡ replicate MOST_MAPS no_map → maps_in_memory t words ≡ replicate MOST_MAPS free_map
 unfolding maps_in_memory
 held_free t words is = ap (map (map_held t words)) is ∙ maps_free t words MOST_MAPS
 

@@ -63,7 +63,7 @@ impl PagedTables {
     ghost use Rattle.flat_tables.specs.SlotTables.{share_of};
     ghost use Rattle.pager_walk.specs.MapPages.{no_map};
     ghost use Rattle.pager_walk.specs.PagedMaps.{AreRooted, FitsMaps, tables_of};
-    ghost use Rattle.pager_walk.specs.declared.map_pages.TheConstants.{MOST_MAPS};
+    ghost use Rattle.fork_maps.specs.declared.map_numbers.TheConstants.{MOST_MAPS};
     ghost use Rattle.paged_tables.specs.LeftShares.{keeps_name, left_by_one, left_of, left_once};
     ghost use Rattle.paged_tables.specs.MadePages.{page_renamed, pointer_to, with_shares};
     ghost use Rattle.paged_tables.specs.PagedTables.{beside_of};

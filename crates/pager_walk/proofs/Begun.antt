@@ -19,7 +19,7 @@ use Rattle.share_table.specs.declared.pointer.Pointer.TheVariants as pointer
 use Rattle.page_contracts.specs.DrumWords.{DrumWords}
 use Rattle.page_contracts.specs.Stores.{HomePlace, free, here, place, is_taken, content}
 use Rattle.pager_walk.specs.declared.map_pages.MapPage.{MapPage}
-use Rattle.pager_walk.specs.declared.map_pages.TheConstants.{MOST_MAPS}
+use Rattle.fork_maps.specs.declared.map_numbers.TheConstants.{MOST_MAPS}
 use Rattle.pager_walk.specs.Decoding.{pointer_in}
 use Rattle.pager_walk.specs.MapPages.{no_map, map_at, root_at, fork_at, index_of, first_map, AreNumbered}
 use Rattle.pager_walk.specs.PagedMaps.{Tables, name_at, entry_for, entry_in, plain_entry, entry_of, words_in, row_of, maps_over, with_root, AreRooted, FitsMaps}

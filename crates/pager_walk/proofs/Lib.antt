@@ -10,4 +10,3 @@ pub mod Followed
 pub mod Ended
 pub mod WalkLaws
 pub mod NamedPages
-pub mod Listing

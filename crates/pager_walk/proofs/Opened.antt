@@ -8,7 +8,7 @@ use Rattle.machine_names.specs.declared.names.PageName.{PageName}
 use Rattle.page_contracts.specs.DrumWords.{DrumWords}
 use Rattle.page_contracts.specs.Stores.{HomePlace, content, FitsHomes}
 use Rattle.pager_walk.specs.declared.map_pages.MapPage.{MapPage}
-use Rattle.pager_walk.specs.declared.map_pages.TheConstants.{MOST_MAPS}
+use Rattle.fork_maps.specs.declared.map_numbers.TheConstants.{MOST_MAPS}
 use Rattle.pager_walk.specs.MapPages.{no_map, fork_at, AreNumbered}
 use Rattle.pager_walk.specs.PagedMaps.{Tables, name_at, row_of, rows_from, maps_over, AreRooted, FitsMaps}
 

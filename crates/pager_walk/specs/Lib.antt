@@ -3,4 +3,3 @@ pub mod MapPages
 pub mod PagedMaps
 pub mod Walks
 pub mod NewPages
-pub mod MapNumbers

@@ -4,10 +4,11 @@ use Rattle.std.specs.Option.{option_map_or}
 use Rattle.machine_names.specs.declared.names.ForkName.{ForkName}
 use Rattle.machine_names.specs.declared.names.Tty.{Tty}
 use Rattle.machine_names.specs.declared.names.TheConstants.{MOST_FORKS}
-use Rattle.machine_names.specs.Orders.{same_fork}
+use Rattle.fork_maps.specs.ForkMaps as forks
+pub use Rattle.fork_maps.specs.ForkMaps.{first_map, one_later}
 use Rattle.page_homes.specs.declared.homes.Home.{Home}
 use Rattle.pager_walk.specs.declared.map_pages.MapPage.{MapPage}
-use Rattle.pager_walk.specs.declared.map_pages.TheConstants.{MOST_MAPS}
+use Rattle.fork_maps.specs.declared.map_numbers.TheConstants.{MOST_MAPS}
 
 -- the map of no fork
 abbrev pub no_map : MapPage
@@ -25,22 +26,9 @@ fork_at maps k = (map_at maps k).fork
 abbrev pub root_at : List MapPage → ℕ → Home
 root_at maps k = (map_at maps k).home
 
--- whether a map is that of a fork
-abbrev pub is_map_of : MapPage → ForkName → Bool
-is_map_of m f = option_map_or (same_fork f) m.fork false
-
-abbrev pub one_later : Option ℕ → Option ℕ
-one_later None = None
-one_later (Some k) = Some (suc k)
-
 -- the number of the first map of a fork
 abbrev pub index_of : List MapPage → ForkName → Option ℕ
-index_of [] f = None
-index_of (m ∷ maps) f = if is_map_of m f then Some 0 else one_later (index_of maps f)
-
--- the number of the first map that a terminal's forks may have
-abbrev pub first_map : Tty → ℕ
-first_map t = t.0 * MOST_FORKS
+index_of = forks.index_of (λ m. m.fork)
 
 -- Each fork has one map, among those of its terminal.
 pub record AreNumbered (maps : List MapPage) : Type 0 where

@@ -10,9 +10,10 @@ mod map_pages;
 mod paged_entry;
 
 pub use chain_walk::{CHAIN, FULL_ACCESS, Walked, Way, walk};
+pub use fork_maps::MOST_MAPS;
 pub use laws::{
     a_map_is_its_page, refused_words_lead_nowhere, transfers_change_no_map, walks_go_by_the_chain,
 };
 pub use map_changes::{begin, begin_following, copy_page, end, make_page, set};
-pub use map_pages::{KeptMaps, MOST_MAPS, MapPage};
+pub use map_pages::{KeptMaps, MapPage};
 pub use paged_entry::{Looked, MapTables, PagedEntry, entry, seen};

@@ -7,7 +7,7 @@ ghost use Rattle.plain_pages.specs.PlainPages.{NumberedPages};
 ghost use Rattle.page_contracts.specs.Pages.{FollowsPage, Scene, SeenNeeds, seen_of};
 ghost use Rattle.pager_walk.specs.Decoding.{pointer_in};
 ghost use Rattle.pager_walk.specs.MapPages.{no_map};
-ghost use Rattle.pager_walk.specs.declared.map_pages.TheConstants.{MOST_MAPS};
+ghost use Rattle.fork_maps.specs.declared.map_numbers.TheConstants.{MOST_MAPS};
 ghost use Rattle.pager_walk.specs.PagedMaps.{AreRooted, FitsMaps, LookStands, TellsEntry, entry_for, entry_in, look_at, map_away, maps_over, name_at, name_of, page_entry, plain_entry, seen_for, tables_of};
 
 use crate::map_pages::KeptMaps;

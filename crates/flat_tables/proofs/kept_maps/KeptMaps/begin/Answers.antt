@@ -2,11 +2,11 @@ use Rattle.std.proofs.Common.{◌≡◌, ℕ, List, [], None, Some, sym, subst}
 use Rattle.std.specs.Prelude.{slice_set}
 use Rattle.std.proofs.lemmas.List.{get_or_read}
 use Rattle.flat_tables.specs.declared.held_map.HeldMap.{HeldMap}
-use Rattle.flat_tables.specs.HeldMaps.{map_at}
+use Rattle.flat_tables.specs.HeldMaps.{fork_at, map_at}
 use Rattle.flat_tables.specs.Looks.{AreLooked}
-use Rattle.flat_tables.specs.MapNumbers.{AreNumbered}
+use Rattle.fork_maps.specs.MapNumbers.{AreListed}
 use Rattle.flat_tables.proofs.Looking.{looked_named}
-use Rattle.flat_tables.proofs.Numbering.{numbered_begun}
+use Rattle.flat_tables.proofs.ForkMaps.{listed_begun}
 use Rattle.flat_tables.proofs.kept_maps.KeptMaps.begin.Goals as goal
 
 pub invariant_of-self : goal.invariant_of-self
@@ -18,6 +18,6 @@ invariant_of-self c =
           subst (λ (n : ℕ). AreLooked (slice_set s.held.items c.args.number (record { fork = Some c.args.fork; entries = c.index_mut-map.result.now.entries })) s.looks.items (slice_set s.keys.items c.args.number n)) (sym c.from.ensures)
           (subst (λ (m : HeldMap). AreLooked (slice_set s.held.items c.args.number (record { fork = Some c.args.fork; entries = m.entries })) s.looks.items (slice_set s.keys.items c.args.number c.args.fork.serial)) (sym is)
           (looked_named s.held.items s.looks.items s.keys.items s.looked c.args.number c.args.fork c.requires.map));
-      numbered = subst (λ (ns : List ℕ). AreNumbered (slice_set s.held.items c.args.number (record { fork = Some c.args.fork; entries = c.index_mut-map.result.now.entries })) ns) (sym c.set_number.ensures)
-          (numbered_begun s.held.items s.numbers.items s.numbered c.args.number c.args.fork c.index_mut-map.result.now.entries c.requires.map c.requires.absent c.requires.from c.requires.below);
+      numbered = subst (AreListed (fork_at (slice_set s.held.items c.args.number (record { fork = Some c.args.fork; entries = c.index_mut-map.result.now.entries })))) (sym c.set.ensures)
+          (listed_begun s.held.items s.numbers.numbers.items s.numbered s.numbers.sized c.args.number c.args.fork c.index_mut-map.result.now.entries c.requires.map c.requires.absent c.requires.from);
     }

@@ -1,13 +1,14 @@
-use Rattle.std.proofs.Common.{◌≡◌, ◌<◌, List, [], subst, sym, arith, length}
+use Rattle.std.proofs.Common.{◌≡◌, ◌<◌, ◌∙◌, List, [], subst, sym, arith, length}
 use Rattle.std.specs.Prelude.{slice_set}
 use Rattle.std.proofs.lemmas.List.{get_or_read}
 use Rattle.flat_tables.specs.declared.held_map.HeldMap.{HeldMap}
 use Rattle.flat_tables.specs.declared.look.Look.{Look}
-use Rattle.flat_tables.specs.HeldMaps.{with_entry}
+use Rattle.flat_tables.specs.HeldMaps.{fork_at, with_entry}
 use Rattle.flat_tables.specs.Looks.{AreLooked, row_at}
-use Rattle.flat_tables.specs.MapNumbers.{AreNumbered}
+use Rattle.fork_maps.specs.MapNumbers.{AreListed}
+use Rattle.fork_maps.proofs.Listing.{listed_same}
 use Rattle.flat_tables.proofs.Looking.{looked_set}
-use Rattle.flat_tables.proofs.Numbering.{numbered_set}
+use Rattle.flat_tables.proofs.HeldEntries.{fork_set}
 use Rattle.flat_tables.proofs.kept_maps.KeptMaps.set.Goals as goal
 
 pub bounds-row-at : goal.bounds-row-at
@@ -27,5 +28,6 @@ invariant_of-self c =
           (subst (λ (row : List Look). AreLooked (with_entry s.held.items c.args.at c.args.entry) (slice_set s.looks.items c.args.at.map (slice_set row c.args.at.page c.look_of.result)) s.keys.items) (sym is)
           (subst (λ (l : Look). AreLooked (with_entry s.held.items c.args.at c.args.entry) (slice_set s.looks.items c.args.at.map (slice_set (row_at s.looks.items c.args.at.map) c.args.at.page l)) s.keys.items) (sym c.look_of.ensures)
           (looked_set s.held.items s.looks.items s.keys.items k c.args.at c.args.entry c.requires.map c.requires.page)));
-      numbered = subst (λ (ms : List HeldMap). AreNumbered ms s.numbers.items) (sym c.set_held.ensures) (numbered_set s.held.items s.numbers.items s.numbered c.args.at c.args.entry);
+      numbered = subst (λ (ms : List HeldMap). AreListed (fork_at ms) s.numbers.numbers.items) (sym c.set_held.ensures)
+          (listed_same (fork_at s.held.items) s.numbers.numbers.items s.numbered (fork_at (with_entry s.held.items c.args.at c.args.entry)) (λ j f is. sym (fork_set s.held.items c.args.at c.args.entry j) ∙ is));
     }

@@ -1,0 +1,2 @@
+pub mod ForkMaps
+pub mod Listing
