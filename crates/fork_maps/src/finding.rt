@@ -1,5 +1,5 @@
 // The map of a fork among all maps.
-ghost use Rattle.std.specs.Prelude.{◌≡◌, None, Option, length};
+ghost use Rattle.std.specs.Prelude.{◌≡◌, ◌≢◌, true, false, None, Some, Option, length};
 ghost use Rattle.machine_names.specs.declared.names.ForkName.{ForkName as AForkName};
 ghost use Rattle.fork_maps.specs.ForkMaps.{AreOwn, fork_at, index_of};
 
@@ -22,6 +22,16 @@ pub trait ForkMap {
     ghost nobody: { whose past ≡ None };
 }
 
+// Whether the map with a number is a fork's. There is none past the end.
+#[inline]
+fn is_map_of<M: ForkMap>(maps: &Vec<M>, number: u32, fork: ForkName) -> bool
+    requires { length maps.now.items ≡ MOST_MAPS }
+    ensures yes { result ≡ true → fork_at M.whose M.past maps.now.items number ≡ Some fork }
+    ensures no { result ≡ false → fork_at M.whose M.past maps.now.items number ≢ Some fork }
+{
+    number < MOST_MAPS && maps[number as usize].fork() == Some(fork)
+}
+
 // The number of a fork's map, looked for among those of its terminal. None exactly where the fork has none.
 fn searched<M: ForkMap>(maps: &Vec<M>, fork: ForkName) -> Option<u32>
     requires count { length maps.now.items ≡ MOST_MAPS }
@@ -30,7 +40,7 @@ fn searched<M: ForkMap>(maps: &Vec<M>, fork: ForkName) -> Option<u32>
 {
     let first = first_map(fork);
     for number in first..first + u32::from(MOST_FORKS) {
-        if number < MOST_MAPS && maps[number as usize].fork() == Some(fork) {
+        if is_map_of(maps, number, fork) {
             return Some(number);
         }
     }
@@ -52,7 +62,7 @@ impl MapNumbers {
         let Some(number) = self.number(fork) else {
             return searched(maps, fork);
         };
-        if number < MOST_MAPS && maps[number as usize].fork() == Some(fork) {
+        if is_map_of(maps, number, fork) {
             return Some(number);
         }
         None
