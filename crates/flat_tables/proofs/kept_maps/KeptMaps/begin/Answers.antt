@@ -1,4 +1,4 @@
-use Rattle.std.proofs.Common.{◌≡◌, ℕ, List, [], None, Some, sym, subst}
+use Rattle.std.proofs.Common.{◌≡◌, ℕ, [], None, Some, sym, subst}
 use Rattle.std.specs.Prelude.{slice_set}
 use Rattle.std.proofs.lemmas.List.{get_or_read}
 use Rattle.flat_tables.specs.declared.held_map.HeldMap.{HeldMap}

@@ -1,4 +1,4 @@
-use Rattle.std.proofs.Common.{ℕ, List, Some, sym, subst}
+use Rattle.std.proofs.Common.{Some, sym, subst}
 use Rattle.std.specs.Prelude.{slice_set}
 use Rattle.fork_maps.specs.MapNumbers.{AreListed}
 use Rattle.flat_tables.specs.HeldMaps.{fork_at}
