@@ -44,9 +44,10 @@ fn zero_page() -> [u64; PAGE_WORDS]
 }
 
 impl PagedStore {
-    ghost use Rattle.std.specs.Prelude.{map};
+    ghost use Rattle.std.specs.Prelude.{◌+◌, map};
     ghost use Rattle.std.specs.Option.{option_map_or};
-    ghost use Rattle.page_contracts.specs.Stores.{IsFetched, away, awaited, meeting, place};
+    ghost use Rattle.outside.specs.Drums.{IsPage};
+    ghost use Rattle.page_contracts.specs.Stores.{IsFetched, IsMade, away, awaited, free_homes, here, meeting, place, room_of};
     ghost use Rattle.page_residence.specs.Resident.{IsRenewed, IsTakenFrom};
     ghost use Rattle.paged_store.specs.StoreMeaning.{paged_meaning};
     ghost use Rattle.paged_store.specs.StoreSteps.{HasReleased, IsAtRest, IsInPlace, all_but, departing};
@@ -128,6 +129,18 @@ impl PagedStore {
             return Need::Frame;
         };
         Need::Page(home)
+    }
+
+    // Takes a free home, for a page with these words in a frame.
+    fn make_page(&mut self, words: &[u64; PAGE_WORDS]) -> Home
+        requires room { room_of (free_homes (paged_meaning.homes self.old)) (paged_meaning.spare self.old) 1 ≡ Room.Enough }
+        requires page { IsPage words.now }
+        ensures made { IsMade paged_meaning result.0 (here words.now) self.old self.new }
+        ensures once { paged_meaning.uses self.new ≤ paged_meaning.uses self.old + 1 }
+    {
+        let home = self.homes.take();
+        self.core.seat(home, words);
+        home
     }
 
     // The last home that is held for a holder isn't held for it any more. False where none is held.
@@ -293,18 +306,14 @@ impl Store for PagedStore {
 
     fn make(&mut self) -> Home {
         let words = zero_page();
-        let home = self.homes.take();
-        self.core.seat(home, &words);
-        home
+        self.make_page(&words)
     }
 
     fn copy(&mut self, from: Home) -> Home {
         match self.core.find(from) {
             Some(found) => {
                 let words = self.core.page(FrameId(found.0));
-                let home = self.homes.take();
-                self.core.seat(home, &words);
-                home
+                self.make_page(&words)
             }
             None => unreachable!(),
         }
