@@ -4,7 +4,8 @@ use Rattle.machine_names.specs.declared.names.ForkName.{ForkName}
 use Rattle.machine_names.specs.declared.names.Tty.{Tty}
 use Rattle.plain_model.specs.declared.fork.Fork.{Fork}
 use Rattle.plain_model.specs.Forks.{ForkMap, fork_in, runs_in}
-use Rattle.job_sched.specs.Schedules.{Schedule, started, stopped}
+use Rattle.job_sched.specs.Schedules.{Schedule, heads, started, stopped}
+use Rattle.job_sched.specs.Units.{row_ran}
 use Rattle.fork_lists.specs.declared.seen.Seen.{Seen}
 use Rattle.fork_lists.specs.Seeing.{has_waited, job_slots, seen_in}
 
@@ -38,3 +39,7 @@ followed forks seen t s =
 abbrev pub followed_all : ForkMap → List Seen → Schedule → List ℕ → Schedule
 followed_all forks seen s [] = s
 followed_all forks seen s (t ∷ ts) = followed_all forks seen (followed forks seen (record { 0 = t }) s) ts
+
+-- one more unit of a fork is counted, where it still is the head
+abbrev pub last_counted : ForkName → Schedule → Schedule
+last_counted who s = if heads who s.ready then row_ran 1 s else s

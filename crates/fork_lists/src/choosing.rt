@@ -8,6 +8,7 @@ ghost use Rattle.job_sched.specs.Ties.{IsSound};
 ghost use Rattle.job_sched.specs.Units.{IsAlone, IsRow, row_ran};
 ghost use Rattle.machine_names.specs.declared.names.TheConstants.{MOST_FORKS, TERMINALS, QUANTUM};
 ghost use Rattle.fork_lists.specs.Seeing.{nobody};
+ghost use Rattle.fork_lists.specs.Following.{last_counted};
 ghost use Rattle.fork_lists.specs.Ties.{AreTied};
 
 use crate::lists::ForkLists;
@@ -104,5 +105,16 @@ impl ForkLists {
         ensures tied { (forks : ForkMap) → AreTied forks self.old → AreTied forks self.new }
     {
         self.sched.ran_row(count)
+    }
+    /// One more unit of a fork is over, where it still is the head.
+    pub fn count_last(&mut self, name: ForkName)
+        ensures schedule { self.new.sched ≡ last_counted name self.old.sched }
+        ensures waits { self.new.sched.waiting ≡ self.old.sched.waiting }
+        ensures tied { (forks : ForkMap) → AreTied forks self.old → AreTied forks self.new }
+    {
+        if self.is_head(name) {
+            self.sched.sound();
+            self.ran_row(1);
+        }
     }
 }

@@ -1,6 +1,6 @@
 -- A row of units of the head brings all others closer.
 use Rattle.std.proofs.Common.{◌≡◌, ◌≢◌, ℕ, zero, suc, ◌+◌, ◌-◌, ◌<◌, ◌≤◌, List, [], ◌∷◌, length, replicate, refl, sym, ◌∙◌, ap, subst, inl, inr, arith, true, false, Bool}
-use Rattle.std.proofs.lemmas.Bool.{cases_Bool}
+use Rattle.std.proofs.lemmas.Bool.{cases_Bool, cond_both}
 use Rattle.machine_names.specs.declared.names.ForkName.{ForkName}
 use Rattle.machine_names.specs.Orders.{same_fork}
 use Rattle.script_texts.specs.declared.event.Step.{Step}
@@ -17,6 +17,7 @@ use Rattle.job_sched.specs.Units.{IsRow, IsTimed, row_ran}
 use Rattle.job_sched.proofs.Alone.{fewer, one_head, one_row, runs_on}
 use Rattle.job_sched.proofs.Lines.{due, joins, rows}
 use Rattle.job_sched.proofs.Units.{row_within, rows_join}
+use Rattle.fork_lists.specs.Following.{last_counted}
 use Rattle.fork_lists.specs.Ties.{ComesOn}
 use Rattle.fork_lists.proofs.Nearing.{headed, heads_as}
 use Rattle.monitor_core.specs.PassedOver.{AreNear, ComeCloser}
@@ -142,13 +143,13 @@ idle_passed c runs none (suc n) s same end =
 
 -- the last unit of a row is counted where the head still stands, and else the head is gone
 module _ (f who : ForkName) (m u : Schedule) (on : ComesOn f m u) (apart : f ≢ who) where
-  pub head_goes_on : heads who u.ready ≡ true → Nears f m (row_ran 1 u) 1
-  head_goes_on head =
+  pub head_counts : heads who m.ready ≡ true → Nears f m (last_counted who u) 1
+  head_counts was =
+      cond_both (heads who u.ready) (row_ran 1 u) u (λ (s : Schedule). Nears f m s 1)
+      (λ head.
       joins f m u (row_ran 1 u) 0 1 on.nears
-      (rows f u 1 on.nears.timed on.nears.here (head_alone f who u.ready head apart) (one_row u on.nears.timed (headed who u.ready head)))
-
-  pub head_gone : heads who m.ready ≡ true → heads who u.ready ≡ false → Nears f m u 1
-  head_gone was is = on.gives who was is
+      (rows f u 1 on.nears.timed on.nears.here (head_alone f who u.ready head apart) (one_row u on.nears.timed (headed who u.ready head))))
+      (λ gone. on.gives who was gone)
 
 -- behind all units of a row but the last, whoever is followed
 pub comes_behind : (f who : ForkName) (c : Schedule) (n : ℕ) (m u : Schedule) → IsTimed c → heads who c.ready ≡ true → IsRow n c → 1 ≤ n → m ≡ row_ran (n - 1) c → f ≢ who → is_in_line f c ≡ true

@@ -1,5 +1,5 @@
 -- What the lists of a machine are before they follow a step.
-use Rattle.std.specs.Prelude.{◌≡◌, ◌⊎◌, ℕ, ◌<◌, List, length, true, Some, if◌then◌else◌}
+use Rattle.std.specs.Prelude.{◌≡◌, ◌⊎◌, ℕ, ◌<◌, List, length, true, Some}
 use Rattle.std.specs.FinMap as map
 use Rattle.machine_names.specs.declared.names.ForkName.{ForkName}
 use Rattle.machine_names.specs.declared.names.Tty.{Tty}
@@ -11,7 +11,6 @@ use Rattle.machine_names.specs.Bounds.{IsTerminal}
 use Rattle.fork_tree.specs.Making.{last_name}
 use Rattle.fork_tree.specs.Trees.{IsTree}
 use Rattle.job_sched.specs.Schedules.{Schedule, heads}
-use Rattle.job_sched.specs.Units.{row_ran}
 use Rattle.fork_lists.specs.declared.lists.ForkLists.{ForkLists}
 use Rattle.fork_lists.specs.declared.seen.Seen.{Seen}
 use Rattle.fork_lists.specs.Following.{followed, started_if, stopped_if}
@@ -35,10 +34,6 @@ abbrev pub reach_followed : Reach → PlainTree → ForkName → List Seen → S
 reach_followed Own now who seen s = stopped_if now.forks (Some who) s
 reach_followed Made now who seen s = started_if now.forks (λ f. true) (map.get now.forks (last_name now who.tty)) (stopped_if now.forks (Some who) s)
 reach_followed Job now who seen s = followed now.forks seen who.tty s
-
--- the last unit of a row is counted where its fork still is the head
-abbrev pub last_counted : ForkName → Schedule → Schedule
-last_counted who s = if heads who s.ready then row_ran 1 s else s
 
 -- the lists had the forks that could run before a row of units of one, which has reached so far
 pub record RowEnded (l : ForkLists) (now : PlainTree) (who : Runner) (reach : Reach) : Type 0 where

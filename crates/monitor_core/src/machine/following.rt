@@ -1,5 +1,6 @@
 // The lists of the machine follow what a step has done to the forks.
 ghost use Rattle.std.specs.Prelude.{◌≡◌, ◌≢◌, ◌-◌, ◌≤◌, MatchOption, true};
+ghost use Rattle.fork_lists.specs.Following.{last_counted};
 ghost use Rattle.fork_lists.specs.Ties.{AreTied};
 ghost use Rattle.job_sched.specs.Lines.{Nears, is_in_line};
 ghost use Rattle.job_sched.specs.Ties.{WaitsLess};
@@ -9,7 +10,7 @@ ghost use Rattle.plain_model.specs.Forks.{IsRunnable};
 ghost use Rattle.machine_names.specs.Bounds.{IsTerminal};
 ghost use Rattle.script_texts.specs.Limits.{FitsEvent};
 ghost use Rattle.monitor_core.specs.Echoes.{FitsEcho};
-ghost use Rattle.monitor_core.specs.Following.{AreFollowed, IsAt, IsFollowed, IsHead, IsNowhere, IsOf, IsOfNone, RowEnded, last_counted, reach_followed};
+ghost use Rattle.monitor_core.specs.Following.{AreFollowed, IsAt, IsFollowed, IsHead, IsNowhere, IsOf, IsOfNone, RowEnded, reach_followed};
 
 use crate::echo::Echo;
 use fork_lists::ForkLists;
@@ -39,10 +40,7 @@ pub fn end_row(lists: &mut ForkLists, tree: &Tree, who: Runner, reach: Reach, co
         Reach::Made => lists.follow_maker(tree, who.fork, who.slot),
         Reach::Job => lists.follow(tree, who.fork.tty),
     }
-    if lists.is_head(who.fork) {
-        lists.sound();
-        lists.ran_row(1);
-    }
+    lists.count_last(who.fork);
 }
 
 // The terminal of whose job an event may change forks. None, where it is an event of no terminal.

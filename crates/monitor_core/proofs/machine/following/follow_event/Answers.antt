@@ -42,3 +42,9 @@ returns-in_default-clause-tied c =
 
 pub returns-in_default-clause-waits : goal.returns-in_default-clause-waits
 returns-in_default-clause-waits c = less_same c.args.lists.now.sched.waiting
+
+pub returns-in-Some-clause-waits : goal.returns-in-Some-clause-waits
+returns-in-Some-clause-waits c = c.follow.ensures.follows.waits
+
+pub returns-in-Tick-clause-waits : goal.returns-in-Tick-clause-waits
+returns-in-Tick-clause-waits c = c.follow_all.ensures.follows.waits

@@ -22,3 +22,6 @@ returns-in-None-clause-tied c =
 
 pub returns-in-None-clause-waits : goal.returns-in-None-clause-waits
 returns-in-None-clause-waits c = less_same c.args.lists.now.sched.waiting
+
+pub returns-in-Some-clause-waits : goal.returns-in-Some-clause-waits
+returns-in-Some-clause-waits c = c.follow.ensures.follows.waits
