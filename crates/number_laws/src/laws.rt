@@ -1,7 +1,9 @@
 // What the constants are that definitions name. A law does nothing when it runs.
-ghost use Rattle.std.specs.Prelude.{◌≡◌, ◌^◌, [], ◌∷◌};
+ghost use Rattle.std.specs.Prelude.{◌≡◌, ◌^◌, [], ◌∷◌, codes};
+ghost use Rattle.asm_core.specs.Names.{calls};
 ghost use Rattle.plain_files.specs.Bytes.{most_bytes};
 
+use asm_core::PROGRAM_BYTES;
 use command_words::LEAST_DRUM_PAGES;
 use command_words::LEAST_FRAMES;
 use command_words::MOST_FRAMES;
@@ -117,13 +119,13 @@ pub fn characters_are_these()
 {}
 
 /// How much there is of each thing: characters that are stored, codes that may be assigned, JFNs of a job, bits of a word, words of a page,
-/// references of a unit, channels and levels, bytes of a name that is read, and the word of the program in a file that says where it starts.
+/// references of a unit, channels and levels, bytes of a name that is read and of a program's text, and the word of a program's first page that says where it starts.
 pub fn bounds_are_these()
     ensures typing { MOST_STORED ∷ ASSIGNABLE_CODES ∷ [] ≡ 80 ∷ 0o33 ∷ [] }
     ensures files { MOST_JFNS ∷ LARGEST_BYTE ∷ PAGE_WORDS ∷ PAGE_ADDRESSES ∷ [] ≡ 20 ∷ 36 ∷ 512 ∷ 512 ∷ [] }
     ensures room { most_bytes 36 ≡ 2 ^ 18 }
     ensures units { MOST_REFERENCES ∷ CHANNELS ∷ LEVELS ∷ [] ≡ 16 ∷ 36 ∷ 3 ∷ [] }
-    ensures texts { MOST_BYTES ∷ START_WORD ∷ [] ≡ 40 ∷ 0o120 ∷ [] }
+    ensures texts { MOST_BYTES ∷ PROGRAM_BYTES ∷ START_WORD ∷ [] ≡ 40 ∷ 1048576 ∷ 0o120 ∷ [] }
 {}
 
 /// A quantum has 200 units, and fewer than 96,000 entries of a RUN in a row pass over a fork that can run.
@@ -149,6 +151,20 @@ pub fn calls_have_these_numbers()
     ensures interrupts { SIR ∷ EIR ∷ DIR ∷ AIC ∷ IIC ∷ DIC ∷ DEBRK ∷ ATI ∷ DTI ∷ [] ≡ 0o125 ∷ 0o126 ∷ 0o130 ∷ 0o131 ∷ 0o132 ∷ 0o133 ∷ 0o136 ∷ 0o137 ∷ 0o140 ∷ [] }
     ensures forks { CFORK ∷ KFORK ∷ FFORK ∷ RFORK ∷ RFSTS ∷ SFORK ∷ SFACS ∷ RFACS ∷ HFORK ∷ WFORK ∷ HALTF ∷ [] ≡ 0o152 ∷ 0o153 ∷ 0o154 ∷ 0o155 ∷ 0o156 ∷ 0o157 ∷ 0o160 ∷ 0o161 ∷ 0o162 ∷ 0o163 ∷ 0o170 ∷ [] }
     ensures tick { UNITS_A_TICK ≡ 1 }
+{}
+
+/// The names of the calls, as a program's text has them, mean these numbers.
+pub fn names_of_calls_mean_their_numbers()
+    ensures { calls ≡
+        (codes "GETER", GETER) ∷ (codes "TIME", TIME) ∷ (codes "RUNTM", RUNTM) ∷ (codes "GTJFN", GTJFN) ∷ (codes "OPENF", OPENF) ∷
+        (codes "CLOSF", CLOSF) ∷ (codes "RLJFN", RLJFN) ∷ (codes "DELF", DELF) ∷ (codes "SFPTR", SFPTR) ∷ (codes "SIZEF", SIZEF) ∷
+        (codes "RFPTR", RFPTR) ∷ (codes "BIN", BIN) ∷ (codes "BOUT", BOUT) ∷ (codes "SIN", SIN) ∷ (codes "SOUT", SOUT) ∷
+        (codes "PMAP", PMAP) ∷ (codes "RPACS", RPACS) ∷ (codes "SPACS", SPACS) ∷ (codes "RMAP", RMAP) ∷ (codes "PBIN", PBIN) ∷
+        (codes "PBOUT", PBOUT) ∷ (codes "PSOUT", PSOUT) ∷ (codes "SIR", SIR) ∷ (codes "EIR", EIR) ∷ (codes "DIR", DIR) ∷
+        (codes "AIC", AIC) ∷ (codes "IIC", IIC) ∷ (codes "DIC", DIC) ∷ (codes "DEBRK", DEBRK) ∷ (codes "ATI", ATI) ∷
+        (codes "DTI", DTI) ∷ (codes "CFORK", CFORK) ∷ (codes "KFORK", KFORK) ∷ (codes "FFORK", FFORK) ∷ (codes "RFORK", RFORK) ∷
+        (codes "RFSTS", RFSTS) ∷ (codes "SFORK", SFORK) ∷ (codes "SFACS", SFACS) ∷ (codes "RFACS", RFACS) ∷ (codes "HFORK", HFORK) ∷
+        (codes "WFORK", WFORK) ∷ (codes "DISMS", DISMS) ∷ (codes "HALTF", HALTF) ∷ [] }
 {}
 
 /// The codes of the errors, as accumulator 1 and GETER tell them.

@@ -7,5 +7,6 @@ mod laws;
 
 pub use laws::{
     bounds_are_these, calls_have_these_numbers, channels_have_these_numbers, characters_are_these,
-    errors_have_these_codes, handles_are_these, sizes_are_these, turns_are_this_long,
+    errors_have_these_codes, handles_are_these, names_of_calls_mean_their_numbers, sizes_are_these,
+    turns_are_this_long,
 };

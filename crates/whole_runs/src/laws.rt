@@ -1,6 +1,7 @@
 use number_laws::{
     bounds_are_these, calls_have_these_numbers, channels_have_these_numbers, characters_are_these,
-    errors_have_these_codes, handles_are_these, sizes_are_these, turns_are_this_long,
+    errors_have_these_codes, handles_are_these, names_of_calls_mean_their_numbers, sizes_are_these,
+    turns_are_this_long,
 };
 use plain_laws::{
     access_is_that_of_all_entries, chains_are_short, copies_are_made_once, empty_script,
@@ -42,6 +43,7 @@ fn the_numbers_are_told(_rt: HostRuntime) -> Result<(), Fail> {
     turns_are_this_long();
     sizes_are_these();
     calls_have_these_numbers();
+    names_of_calls_mean_their_numbers();
     errors_have_these_codes();
     handles_are_these();
     channels_have_these_numbers();
