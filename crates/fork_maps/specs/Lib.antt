@@ -1,2 +1,3 @@
+pub mod ChainWalks
 pub mod ForkMaps
 pub mod MapNumbers
