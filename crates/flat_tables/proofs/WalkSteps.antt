@@ -9,11 +9,11 @@ use Rattle.flat_tables.specs.declared.held_entry.EntryAt.{EntryAt}
 use Rattle.flat_tables.specs.declared.held_entry.HeldEntry.{HeldEntry}
 use Rattle.flat_tables.specs.declared.held_entry.Link.{Link}
 use Rattle.flat_tables.specs.declared.held_map.HeldMap.{HeldMap}
-use Rattle.flat_tables.specs.declared.chain_walk.Walk.{Walk}
 use Rattle.flat_tables.specs.declared.chain_walk.Use.{Use}
 use Rattle.flat_tables.specs.declared.chain_walk.Use.TheVariants.{Read, Write, Execute, Change}
 use Rattle.flat_tables.specs.HeldMaps.{fork_at, held_entry, index_of}
-use Rattle.flat_tables.specs.Walks.{next_at, walk_end, walk_behind, walk_from, walk_within, walk, lets, lets_along, ready_home, terminal_of}
+use Rattle.fork_maps.specs.ChainWalks.{walk_end, walk_behind}
+use Rattle.flat_tables.specs.Walks.{Walk, next_at, walk_from, walk_within, walk, lets, lets_along, ready_home, terminal_of}
 use Rattle.flat_tables.proofs.ForkMaps.{index_fork}
 
 pub walk_none : (most : ℕ) (maps : List HeldMap) (at : EntryAt) → most ≡ 0 → walk_within most maps at ≡ None

@@ -19,9 +19,9 @@ use Rattle.flat_tables.specs.declared.held_entry.EntryAt.{EntryAt}
 use Rattle.flat_tables.specs.declared.held_entry.HeldEntry.{HeldEntry}
 use Rattle.flat_tables.specs.declared.held_entry.HeldEntry.TheVariants.{Page}
 use Rattle.flat_tables.specs.declared.held_map.HeldMap.{HeldMap}
-use Rattle.flat_tables.specs.declared.chain_walk.Walk.{Walk}
+use Rattle.fork_maps.specs.ChainWalks.{allows_along, copy_for}
 use Rattle.flat_tables.specs.HeldMaps.{held_entry, index_of, one_later}
-use Rattle.flat_tables.specs.Walks.{walk}
+use Rattle.flat_tables.specs.Walks.{Walk, walk}
 use Rattle.flat_tables.specs.SlotTables.{Tables, share_of}
 
 -- the home of a page
@@ -40,17 +40,6 @@ scene_of t frames = scene_with (away_at t.places) t.names frames
 -- whether so many pages more may live
 abbrev pub has_room : Tables → ℕ → Bool
 has_room t n = nat_le (t.taken + t.living + n) t.limit
-
--- whether a chain permits a reference
-abbrev pub allows : Kind → Walk → Bool
-allows Read w = w.reads
-allows Write w = w.writes
-allows Execute w = w.executes
-
--- where a reference makes a copy, if it makes one
-abbrev pub copy_of : Kind → Walk → Option EntryAt
-copy_of Write w = w.copy
-copy_of kind w = None
 
 -- whether an entry is the only one that names its page
 abbrev pub is_alone : List ℕ → Option HeldEntry → Bool
@@ -72,7 +61,7 @@ touch_made absent t scene (Some h) (Some m) = touch_copy t scene (absent h.0) (i
 -- what a reference finds along its chain
 abbrev pub touch_walked : (ℕ → Option ℕ) → Tables → Scene → Kind → Option Walk → Touch
 touch_walked absent t scene kind None = Denied kind
-touch_walked absent t scene kind (Some w) = if allows kind w then touch_made absent t scene w.home (copy_of kind w) else Denied kind
+touch_walked absent t scene kind (Some w) = if allows_along kind w then touch_made absent t scene w.home (copy_for kind w) else Denied kind
 
 -- the walk along the chain of a slot, whose fork may not live
 abbrev pub walk_of : List HeldMap → Slot → Option Walk

@@ -13,10 +13,15 @@ use Rattle.flat_tables.specs.declared.held_entry.HeldEntry.{HeldEntry}
 use Rattle.flat_tables.specs.declared.held_entry.HeldEntry.TheVariants.{Empty, Page, Follows}
 use Rattle.flat_tables.specs.declared.held_entry.Link.{Link}
 use Rattle.flat_tables.specs.declared.held_map.HeldMap.{HeldMap}
-use Rattle.flat_tables.specs.declared.chain_walk.Walk.{Walk}
+use Rattle.fork_maps.specs.declared.chain_walk.Walk.{Walk as AWalk}
+use Rattle.fork_maps.specs.ChainWalks.{walk_end, walk_behind}
 use Rattle.flat_tables.specs.declared.chain_walk.Use.{Use}
 use Rattle.flat_tables.specs.declared.chain_walk.Use.TheVariants.{Read, Write, Execute, Change}
 use Rattle.flat_tables.specs.HeldMaps.{fork_at, held_entry, index_of}
+
+-- a walk along maps in memory
+abbrev pub Walk : Type 0
+Walk = AWalk EntryAt
 
 -- the slot whose entry stands at a place
 abbrev pub slot_of : List HeldMap → EntryAt → Option Slot
@@ -29,21 +34,6 @@ terminal_of maps k = option_map_or (λ f. f.tty) (fork_at maps k) (record { 0 = 
 -- where the entry stands that a link names, if its fork lives
 abbrev pub next_at : List HeldMap → EntryAt → Link → Option EntryAt
 next_at maps at l = option_map (λ k. record { map = k; page = l.page }) (index_of maps (record { tty = terminal_of maps at.map; serial = l.serial }))
-
--- a walk that ends at an entry with this access
-abbrev pub walk_end : EntryAt → Access → Option Home → Walk
-walk_end at a home = record { end = at; home = home; reads = a.r; writes = a.c || a.w; executes = a.x; copy = if a.c then Some at else None }
-
--- a walk from an entry with this access on
-abbrev pub walk_behind : EntryAt → Access → Walk → Walk
-walk_behind at a w = record {
-  end = w.end;
-  home = w.home;
-  reads = a.r && w.reads;
-  writes = if a.c then w.reads else a.w && w.writes;
-  executes = a.x && w.executes;
-  copy = if a.c then Some at else w.copy;
-}
 
 -- the walk from an entry on, over those from other entries
 abbrev pub walk_from : List HeldMap → EntryAt → Option HeldEntry → (EntryAt → Option Walk) → Option Walk

@@ -2,31 +2,14 @@
 ghost use Rattle.std.specs.Prelude.{◌≡◌, ◌<◌, None, Some, IsSome, length};
 ghost use Rattle.std.specs.Option.{option_and_then};
 ghost use Rattle.flat_tables.specs.HeldMaps.{AreHeld, fork_at, index_of};
-ghost use Rattle.flat_tables.specs.SlotTouches.{allows, copy_of};
-ghost use Rattle.flat_tables.specs.Walks.{next_at, walk_end, walk_behind, walk_within, use_of, lets, ready_home};
+ghost use Rattle.flat_tables.specs.Walks.{next_at, walk_within, use_of, lets, ready_home};
 
 use crate::held_entry::{EntryAt, HeldEntry, Link};
 use crate::held_map::entry_held;
 use crate::kept_maps::KeptMaps;
+use fork_maps::{FULL_ACCESS, Walk, ends, goes_on};
 use machine_names::{Access, ForkName, Kind, SPACE_PAGES};
 use page_homes::Home;
-
-/// How many entries a chain has at most.
-pub const CHAIN: u32 = 4;
-
-/// What a walk along a chain finds.
-#[derive(Clone, Copy, PartialEq, Eq)]
-pub struct Walk {
-    /// Where the last entry stands, and the home of the page that it names, if it names one.
-    pub end: EntryAt,
-    pub home: Option<Home>,
-    /// Whether the chain permits to read, to write and to execute.
-    pub reads: bool,
-    pub writes: bool,
-    pub executes: bool,
-    /// Where the first entry stands that has the copy mark, if one has.
-    pub copy: Option<EntryAt>,
-}
 
 /// What is done with a page: it is read, written, executed, or read and then written.
 #[derive(Clone, Copy, PartialEq, Eq)]
@@ -64,84 +47,17 @@ impl Use {
     }
 }
 
-impl Walk {
-    /// Whether the chain permits a reference.
-    pub fn permits(self, kind: Kind) -> bool
-        ensures { result ≡ allows kind self }
-    {
-        match kind {
-            Kind::Read => self.reads,
-            Kind::Write => self.writes,
-            Kind::Execute => self.executes,
-        }
-    }
-
-    /// The home of the page, where the chain lets it be used so as it is.
-    fn ready_home(self, wanted: Use) -> Option<Home>
-        ensures { result ≡ ready_home wanted self }
-    {
-        let is_let = match wanted {
-            Use::Read => self.reads,
-            Use::Write => self.writes && self.copy.is_none(),
-            Use::Execute => self.executes,
-            Use::Change => self.reads && self.writes && self.copy.is_none(),
-        };
-        if is_let { self.home } else { None }
-    }
-
-    /// Where a reference makes a copy, if it makes one.
-    pub fn copy_for(self, kind: Kind) -> Option<EntryAt>
-        ensures { result ≡ copy_of kind self }
-    {
-        match kind {
-            Kind::Write => self.copy,
-            _ => None,
-        }
-    }
-}
-
-/// Every right, and no copy mark.
-pub const FULL_ACCESS: Access = Access {
-    r: true,
-    w: true,
-    x: true,
-    c: false,
-};
-
-// The walk that ends at an entry.
-fn ends(at: EntryAt, access: Access, home: Option<Home>) -> Walk
-    ensures { result ≡ walk_end at access home }
+// The home of the page at the end of a chain that lets it be used so as it is.
+fn ready_home(walk: Walk<EntryAt>, wanted: Use) -> Option<Home>
+    ensures { result ≡ ready_home wanted walk }
 {
-    let copy = if access.c { Some(at) } else { None };
-    Walk {
-        end: at,
-        home,
-        reads: access.r,
-        writes: access.c || access.w,
-        executes: access.x,
-        copy,
-    }
-}
-
-// The walk from an entry on, whose rest is known.
-fn goes_on(at: EntryAt, access: Access, rest: Walk) -> Walk
-    ensures { result ≡ walk_behind at access rest }
-{
-    if access.c {
-        return Walk {
-            reads: access.r && rest.reads,
-            writes: rest.reads,
-            executes: access.x && rest.executes,
-            copy: Some(at),
-            ..rest
-        };
-    }
-    Walk {
-        reads: access.r && rest.reads,
-        writes: access.w && rest.writes,
-        executes: access.x && rest.executes,
-        ..rest
-    }
+    let is_let = match wanted {
+        Use::Read => walk.reads,
+        Use::Write => walk.writes && walk.copy.is_none(),
+        Use::Execute => walk.executes,
+        Use::Change => walk.reads && walk.writes && walk.copy.is_none(),
+    };
+    if is_let { walk.home } else { None }
 }
 
 // Where the entry stands that a link names. None exactly where its fork doesn't live.
@@ -178,7 +94,7 @@ fn map_near(maps: &KeptMaps, fork: ForkName, near: u16) -> Option<u32>
 }
 
 /// The walk from an entry of a living fork's map along its chain, where so many entries are enough.
-pub fn walk_along(maps: &KeptMaps, most: u32, at: EntryAt) -> Option<Walk>
+pub fn walk_along(maps: &KeptMaps, most: u32, at: EntryAt) -> Option<Walk<EntryAt>>
     requires held { AreHeld maps.now.held.items }
     requires lives { IsSome (fork_at maps.now.held.items at.map) }
     requires page { at.page < SPACE_PAGES }
@@ -212,6 +128,6 @@ pub fn home_of(maps: &KeptMaps, most: u32, at: EntryAt, wanted: Use) -> Option<H
 {
     match walk_along(maps, most, at) {
         None => None,
-        Some(walk) => walk.ready_home(wanted),
+        Some(walk) => ready_home(walk, wanted),
     }
 }

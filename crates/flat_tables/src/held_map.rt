@@ -2,9 +2,8 @@
 ghost use Rattle.std.specs.Prelude.{◌≡◌, ◌+◌, ◌<◌, ◌≤◌, None, Some, IfOk, length, replicate};
 ghost use Rattle.flat_tables.specs.HeldMaps.{AreHeld, no_page, free_map, map_at, fork_at, first_map, held_entry, with_entry, index_of, living_of, followers};
 
-use crate::chain_walk::FULL_ACCESS;
 use crate::held_entry::{EntryAt, HeldEntry, Link};
-use fork_maps::{ForkMap, MOST_MAPS};
+use fork_maps::{FULL_ACCESS, ForkMap, MOST_MAPS};
 use machine_names::{ForkName, MOST_FORKS, SPACE_PAGES, TERMINALS, Tty};
 use std::alloc::{AllocError, Global};
 

@@ -4,11 +4,11 @@ ghost use Rattle.flat_tables.specs.HeldMaps.{fork_at};
 ghost use Rattle.fork_maps.specs.MapNumbers.{AreListed};
 ghost use Rattle.flat_tables.specs.Looks.{AreLooked, IsCode, key_of, no_looks, look_of};
 
-use crate::chain_walk::{CHAIN, Use, home_of};
+use crate::chain_walk::{Use, home_of};
 use crate::held_entry::{EntryAt, HeldEntry};
 use crate::held_map::{HeldMap, following, free_maps, set_held};
 use crate::look::{Look, NO_LOOK, look_of};
-use fork_maps::{MOST_MAPS, MapNumbers};
+use fork_maps::{CHAIN, MOST_MAPS, MapNumbers};
 use machine_names::{ForkName, MOST_FORKS, SPACE_PAGES};
 use page_homes::Home;
 use std::alloc::{AllocError, Global};

@@ -12,7 +12,8 @@ mod look;
 mod map_tables;
 mod page_serials;
 
-pub use chain_walk::{FULL_ACCESS, Use};
+pub use chain_walk::Use;
+pub use fork_maps::FULL_ACCESS;
 pub use held_entry::{EntryAt, HeldEntry, Link};
 pub use held_map::free_map_of;
 pub use map_tables::MapTables;

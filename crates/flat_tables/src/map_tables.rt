@@ -12,11 +12,12 @@ ghost use Rattle.flat_tables.specs.SlotTables.{share_of};
 ghost use Rattle.flat_tables.specs.SlotTouches.{walk_of, is_alone, has_room};
 ghost use Rattle.flat_tables.specs.TableSteps.{tables_of, next_name, left_shares, home_taken, home_renamed, entry_kept, entry_left, home_freed, fork_begun, fork_ended};
 
-use crate::chain_walk::{CHAIN, Walk, walk_along};
+use crate::chain_walk::walk_along;
 use crate::held_entry::{EntryAt, HeldEntry};
 use crate::held_map::entry_held;
 use crate::kept_maps::KeptMaps;
 use crate::page_serials::PageSerials;
+use fork_maps::{CHAIN, Walk};
 use machine_names::{Access, ForkName, PageName, SPACE_PAGES, Slot, Tty};
 use outside::Memory;
 use page_files::Files;
@@ -84,7 +85,7 @@ impl MapTables {
     }
 
     /// The walk along the chain of a slot. None where its fork doesn't live, too.
-    pub fn walk(&self, slot: Slot) -> Option<Walk>
+    pub fn walk(&self, slot: Slot) -> Option<Walk<EntryAt>>
         requires held { AreHeld self.now.maps.held.items }
         requires page { slot.page < SPACE_PAGES }
         ensures { result ≡ walk_of self.now.maps.held.items slot }

@@ -3,7 +3,8 @@ use Rattle.std.specs.Option.{option_map, option_and_then}
 use Rattle.machine_names.specs.declared.names.TheConstants.{SPACE_PAGES}
 use Rattle.flat_tables.specs.declared.held_entry.EntryAt.{EntryAt}
 use Rattle.flat_tables.specs.declared.held_entry.HeldEntry.TheVariants.{Empty, Page, Follows}
-use Rattle.flat_tables.specs.Walks.{walk_within, walk_behind}
+use Rattle.fork_maps.specs.ChainWalks.{walk_behind}
+use Rattle.flat_tables.specs.Walks.{walk_within}
 use Rattle.flat_tables.proofs.WalkSteps.{walk_none, walk_here, next_lives, next_there}
 use Rattle.flat_tables.proofs.chain_walk.+walk_along.Goals as goal
 
