@@ -15,7 +15,6 @@ use Rattle.page_contracts.specs.Changes.{FilePageSet}
 use Rattle.page_contracts.specs.DrumWords.{DrumWords}
 use Rattle.page_contracts.specs.Pages.{FilesOne, IsPlace}
 use Rattle.page_contracts.specs.Stores.{StoreMeaning, away_at}
-use Rattle.flat_tables.specs.declared.chain_walk.Walk.{Walk}
 use Rattle.flat_tables.specs.declared.map_tables.MapTables.{MapTables}
 use Rattle.flat_tables.specs.HeldMaps.{index_of, living_of, name_of}
 use Rattle.flat_tables.specs.Serials.{serial_of}
@@ -24,7 +23,7 @@ use Rattle.flat_pages.specs.SlotMeaning.{slots_meaning}
 use Rattle.flat_tables.specs.SlotTouches.{home_at, scene_of, touch_of_place, touch_walked, walk_of}
 use Rattle.flat_pages.specs.FileSteps.{IsNamed, SetsFile}
 use Rattle.flat_tables.specs.TableSteps.{tables_of}
-use Rattle.flat_tables.specs.Walks.{lets_along, use_of}
+use Rattle.flat_tables.specs.Walks.{Walk, lets_along, use_of}
 use Rattle.flat_tables.proofs.FiledHomes.{get_filed}
 use Rattle.flat_pages.proofs.MapHomes.{sets_file}
 use Rattle.flat_pages.proofs.Meeting.{found_walk, home_let, ready_from}

@@ -32,13 +32,13 @@ use Rattle.plain_pages.proofs.Chains.{marked}
 use Rattle.flat_tables.specs.declared.held_entry.EntryAt.{EntryAt}
 use Rattle.flat_tables.specs.declared.held_entry.HeldEntry.{HeldEntry}
 use Rattle.flat_tables.specs.declared.held_map.HeldMap.{HeldMap}
-use Rattle.flat_tables.specs.declared.chain_walk.Walk.{Walk}
 use Rattle.flat_tables.specs.HeldMaps.{index_of, held_entry, fork_at, maps_held, name_at, name_of}
 use Rattle.flat_tables.specs.declared.chain_walk.Use.{Use}
 use Rattle.flat_tables.specs.declared.chain_walk.Use.TheVariants as to
-use Rattle.flat_tables.specs.Walks.{slot_of, walk, use_of, lets_along, ready_home}
+use Rattle.flat_tables.specs.Walks.{Walk, slot_of, walk, use_of, lets_along, ready_home}
 use Rattle.flat_tables.specs.SlotTables.{Tables, plain_of, share_of, AreTables, AreSized}
-use Rattle.flat_tables.specs.SlotTouches.{walk_of, scene_of, has_room, is_alone, touch_copy, touch_made, touch_filed, touch_walked, touch_of_place, home_at, allows, copy_of}
+use Rattle.fork_maps.specs.ChainWalks.{allows_along, copy_for}
+use Rattle.flat_tables.specs.SlotTouches.{walk_of, scene_of, has_room, is_alone, touch_copy, touch_made, touch_filed, touch_walked, touch_of_place, home_at}
 use Rattle.page_contracts.specs.Stores.{away_home, away_at}
 use Rattle.flat_tables.proofs.ForkMaps.{index_fork, index_is}
 use Rattle.flat_pages.proofs.Agreement.{entry_named, filed_named, object_home, uses_home}
@@ -99,7 +99,7 @@ module _ (t : Tables) (a : AreTables t) (s : Slot) (w : Walk) (f : Found t s w) 
   home_name h e = let x = f.meets.named h e in entry_named t a w.end h x.0 x.1
 
   -- the entry with the copy mark is there
-  pub copy_held : (kind : Kind) (m : EntryAt) → copy_of kind w ≡ Some m → IsSome (held_entry t.maps m)
+  pub copy_held : (kind : Kind) (m : EntryAt) → copy_for kind w ≡ Some m → IsSome (held_entry t.maps m)
   copy_held kind m e = by kind e
     where
       some : (o : Option HeldEntry) (x : HeldEntry) → o ≡ Some x → IsSome o
@@ -110,7 +110,7 @@ module _ (t : Tables) (a : AreTables t) (s : Slot) (w : Walk) (f : Found t s w) 
       held None is k = absurd (cc k)
       held (Some y) is k = let same : y ≡ m = cc k in some (held_entry t.maps m) is.3.0 (ap (held_entry t.maps) (sym same) ∙ is.3.1)
 
-      by : (k : Kind) → copy_of k w ≡ Some m → IsSome (held_entry t.maps m)
+      by : (k : Kind) → copy_for k w ≡ Some m → IsSome (held_entry t.maps m)
       by Read k = absurd (cc k)
       by Execute k = absurd (cc k)
       by Write k = held w.copy f.meets.copy k
@@ -303,7 +303,7 @@ module _ (absent : ℕ → Option ℕ) (t : Tables) (scene : Scene) where
   both : (a b : Bool) → a ≡ true → b ≡ true → (a && b) ≡ true
   both a b p q = (λ i. p i && q i)
 
-  lets_when : (kind : Kind) (w : Walk) → allows kind w ≡ true → copy_of kind w ≡ None → lets_along (use_of kind) w ≡ true
+  lets_when : (kind : Kind) (w : Walk) → allows_along kind w ≡ true → copy_for kind w ≡ None → lets_along (use_of kind) w ≡ true
   lets_when Read w e n = e
   lets_when Execute w e n = e
   lets_when Write w e n = both w.writes (is_none w.copy) e (ap is_none n)
@@ -311,8 +311,8 @@ module _ (absent : ℕ → Option ℕ) (t : Tables) (scene : Scene) where
   -- a touch that answers Ready finds the page that may be used so
   pub ready_from : (kind : Kind) (w : Walk) → touch_walked absent t scene kind (Some w) ≡ Ready → IsReadyBy absent (use_of kind) w
   ready_from kind w e =
-      let p = allowed_true (allows kind w) (touch_made absent t scene w.home (copy_of kind w)) kind e in
-      let m = made_ready w.home (copy_of kind w) p.1 in
+      let p = allowed_true (allows_along kind w) (touch_made absent t scene w.home (copy_for kind w)) kind e in
+      let m = made_ready w.home (copy_for kind w) p.1 in
       (m.0, ap (λ b. cond b w.home None) (lets_when kind w p.0 m.2) ∙ m.1, m.3)
 
   none_of : (o : Option EntryAt) → is_none o ≡ true → o ≡ None
@@ -323,7 +323,7 @@ module _ (absent : ℕ → Option ℕ) (t : Tables) (scene : Scene) where
   first_of_both true b e = (refl, e)
   first_of_both false b e = absurd (cc e)
 
-  when_lets : (kind : Kind) (w : Walk) → lets_along (use_of kind) w ≡ true → (allows kind w ≡ true) × (copy_of kind w ≡ None)
+  when_lets : (kind : Kind) (w : Walk) → lets_along (use_of kind) w ≡ true → (allows_along kind w ≡ true) × (copy_for kind w ≡ None)
   when_lets Read w e = (e, refl)
   when_lets Execute w e = (e, refl)
   when_lets Write w e = let b = first_of_both w.writes (is_none w.copy) e in (b.0, none_of w.copy b.1)
@@ -336,7 +336,7 @@ module _ (absent : ℕ → Option ℕ) (t : Tables) (scene : Scene) where
   ready_to kind w r =
       let b = home_let (lets_along (use_of kind) w) w.home r.0 r.1 in
       let l = when_lets kind w b.0 in
-      ap (λ x. cond x (touch_made absent t scene w.home (copy_of kind w)) (Denied kind)) l.0
+      ap (λ x. cond x (touch_made absent t scene w.home (copy_for kind w)) (Denied kind)) l.0
       ∙ (λ i. touch_made absent t scene (b.1 i) (l.1 i)) ∙ ap (λ o. absent_or o Ready) r.2
 
   -- where the page may be changed it may be read and written

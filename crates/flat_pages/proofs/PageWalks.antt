@@ -11,9 +11,9 @@ use Rattle.flat_tables.specs.declared.held_entry.HeldEntry.{HeldEntry}
 use Rattle.flat_tables.specs.declared.held_entry.HeldEntry.TheVariants.{Empty, Page, Follows}
 use Rattle.flat_tables.specs.declared.held_entry.Link.{Link}
 use Rattle.flat_tables.specs.declared.held_map.HeldMap.{HeldMap}
-use Rattle.flat_tables.specs.declared.chain_walk.Walk.{Walk}
 use Rattle.flat_tables.specs.HeldMaps.{held_entry, index_of, with_entry}
-use Rattle.flat_tables.specs.Walks.{terminal_of, next_at, walk_end, walk_behind, walk_from, walk_within, walk}
+use Rattle.fork_maps.specs.ChainWalks.{walk_end, walk_behind}
+use Rattle.flat_tables.specs.Walks.{Walk, terminal_of, next_at, walk_from, walk_within, walk}
 use Rattle.flat_tables.proofs.HeldEntries.{at_tells, fork_set, entry_same, entry_other}
 use Rattle.flat_pages.proofs.SlotSetting.{set_forks, index_same}
 

@@ -34,11 +34,11 @@ use Rattle.flat_tables.specs.declared.held_entry.HeldEntry.{HeldEntry}
 use Rattle.flat_tables.specs.declared.held_entry.HeldEntry.TheVariants.{Empty, Page, Follows}
 use Rattle.flat_tables.specs.declared.held_map.HeldMap.{HeldMap}
 use Rattle.flat_tables.specs.declared.map_tables.MapTables.{MapTables}
-use Rattle.flat_tables.specs.declared.chain_walk.Walk.{Walk}
 use Rattle.flat_tables.specs.HeldMaps.{fork_at, index_of, held_entry, with_entry, name_at, points_at, living_of}
-use Rattle.flat_tables.specs.Walks.{slot_of, walk}
+use Rattle.flat_tables.specs.Walks.{Walk, slot_of, walk}
 use Rattle.flat_tables.specs.SlotTables.{Tables, plain_of, files_held, share_of, AreTables, AreSized}
-use Rattle.flat_tables.specs.SlotTouches.{walk_of, scene_of, home_named, has_room, is_alone, touch_copy, touch_made, touch_walked, touch_of_place, allows, copy_of}
+use Rattle.fork_maps.specs.ChainWalks.{allows_along, copy_for}
+use Rattle.flat_tables.specs.SlotTouches.{walk_of, scene_of, home_named, has_room, is_alone, touch_copy, touch_made, touch_walked, touch_of_place}
 use Rattle.page_contracts.specs.Stores.{away_home, away_at}
 use Rattle.flat_tables.specs.Serials.{with_next}
 use Rattle.flat_tables.specs.TableSteps.{tables_of, next_name, home_taken, home_renamed}
@@ -157,13 +157,13 @@ module _ (t : Tables) (a : AreTables t) (frames : ℕ) (s : Slot) (kind : Kind) 
   touch = touch_of_place t frames (Fork s) kind
 
   abbrev made : Touch
-  made = touch_made (away_at t.places) t scene w.home (copy_of kind w)
+  made = touch_made (away_at t.places) t scene w.home (copy_for kind w)
 
-  touch_is : touch ≡ cond (allows kind w) made (Denied kind)
+  touch_is : touch ≡ cond (allows_along kind w) made (Denied kind)
   touch_is = ap (touch_walked (away_at t.places) t scene kind) r.walks
 
-  pub permitted : allows kind w ≡ true
-  permitted = by (allows kind w) (sym (ap can_settle touch_is) ∙ r.ready)
+  pub permitted : allows_along kind w ≡ true
+  permitted = by (allows_along kind w) (sym (ap can_settle touch_is) ∙ r.ready)
     where
       by : (b : Bool) → can_settle (cond b made (Denied kind)) ≡ true → b ≡ true
       by true k = refl
@@ -180,7 +180,7 @@ module _ (t : Tables) (a : AreTables t) (frames : ℕ) (s : Slot) (kind : Kind) 
 
   -- for a zero page
   zero_touch : w.home ≡ None → touch ≡ Zero
-  zero_touch none = made_is ∙ ap (λ h. touch_made (away_at t.places) t scene h (copy_of kind w)) none ∙ by (copy_of kind w) (sym (ap (λ h. can_settle (touch_made (away_at t.places) t scene h (copy_of kind w))) none) ∙ can)
+  zero_touch none = made_is ∙ ap (λ h. touch_made (away_at t.places) t scene h (copy_for kind w)) none ∙ by (copy_for kind w) (sym (ap (λ h. can_settle (touch_made (away_at t.places) t scene h (copy_for kind w))) none) ∙ can)
     where
       zero : (room some : Bool) → can_settle (cond room (cond some Zero NeedFrame) Full) ≡ true → cond room (cond some Zero NeedFrame) Full ≡ Zero
       zero true true k = refl
@@ -191,7 +191,7 @@ module _ (t : Tables) (a : AreTables t) (frames : ℕ) (s : Slot) (kind : Kind) 
       by None k = zero (has_room t 1) (nat_lt 0 frames) k
       by (Some m) k = zero (has_room t 2) (nat_lt 0 frames) k
 
-  zero_room : w.home ≡ None → (m : EntryAt) → copy_of kind w ≡ Some m → has_room t 2 ≡ true
+  zero_room : w.home ≡ None → (m : EntryAt) → copy_for kind w ≡ Some m → has_room t 2 ≡ true
   zero_room none m some = by (has_room t 2) (sym (λ i. can_settle (touch_made (away_at t.places) t scene (none i) (some i))) ∙ can)
     where
       by : (room : Bool) → can_settle (cond room (framed scene Zero) Full) ≡ true → room ≡ true
@@ -200,7 +200,7 @@ module _ (t : Tables) (a : AreTables t) (frames : ℕ) (s : Slot) (kind : Kind) 
 
   -- there is room for it, and a frame
   pub zero_fits : w.home ≡ None → (has_room t 1 ≡ true) × (0 < frames)
-  zero_fits none = by (copy_of kind w) (sym (ap (λ h. can_settle (touch_made (away_at t.places) t scene h (copy_of kind w))) none) ∙ can)
+  zero_fits none = by (copy_for kind w) (sym (ap (λ h. can_settle (touch_made (away_at t.places) t scene h (copy_for kind w))) none) ∙ can)
     where
       both : (room some : Bool) → can_settle (cond room (cond some Zero NeedFrame) Full) ≡ true → (room ≡ true) × (some ≡ true)
       both true true k = (refl, refl)
@@ -218,7 +218,7 @@ module _ (t : Tables) (a : AreTables t) (frames : ℕ) (s : Slot) (kind : Kind) 
       by (Some m) k = let b = both (has_room t 2) (nat_lt 0 frames) k in (fewer b.0, above b.1)
 
   -- for a copy
-  pub can_copy : (h : Home) (m : EntryAt) → w.home ≡ Some h → copy_of kind w ≡ Some m → CanCopy t frames s kind h m
+  pub can_copy : (h : Home) (m : EntryAt) → w.home ≡ Some h → copy_for kind w ≡ Some m → CanCopy t frames s kind h m
   can_copy h m home some =
       let alone = is_alone t.shares (held_entry t.maps m) in
       let is : made ≡ copying (away_at t.places h.0) alone (has_room t 1) (nat_lt 0 frames) = (λ i. touch_made (away_at t.places) t scene (home i) (some i)) ∙ copying_is t frames (away_at t.places h.0) alone in
@@ -226,14 +226,14 @@ module _ (t : Tables) (a : AreTables t) (frames : ℕ) (s : Slot) (kind : Kind) 
       record { away = k.none; is = made_is ∙ is ∙ k.is; room = k.room; frame = λ shared. (let f = k.frame shared in grind (arith, nat_tests, f)) }
 
   -- for none
-  pub ready_away : (h : Home) → w.home ≡ Some h → copy_of kind w ≡ None → away_at t.places h.0 ≡ None
+  pub ready_away : (h : Home) → w.home ≡ Some h → copy_for kind w ≡ None → away_at t.places h.0 ≡ None
   ready_away h home none = by (away_at t.places h.0) (sym (λ i. can_settle (touch_made (away_at t.places) t scene (home i) (none i))) ∙ can)
     where
       by : (o : Option ℕ) → can_settle (absent_or o Ready) ≡ true → o ≡ None
       by None k = refl
       by (Some x) k = absurd (cc k)
 
-  pub is_ready : (h : Home) → w.home ≡ Some h → copy_of kind w ≡ None → touch ≡ Ready
+  pub is_ready : (h : Home) → w.home ≡ Some h → copy_for kind w ≡ None → touch ≡ Ready
   is_ready h home none = made_is ∙ (λ i. touch_made (away_at t.places) t scene (home i) (none i)) ∙ ap (λ o. absent_or o Ready) (ready_away h home none)
 
   pub home_here : (h : Home) → w.home ≡ Some h → away_at t.places h.0 ≡ None → is_here (place t.places h.0) ≡ true
@@ -264,23 +264,23 @@ module _ (t : Tables) (a : AreTables t) (frames : ℕ) (s : Slot) (kind : Kind) 
 
   -- once a zero page stands at the chain's end
   zero_settles : (u : Tables) (h : Home) (frames' : ℕ) → w.home ≡ None → u.maps ≡ with_entry t.maps w.end (Page h full_access) → away_at u.places h.0 ≡ None → (has_room t 2 ≡ true → has_room u 1 ≡ true) → SettlesTo touch (touch_of_place u frames' (Fork s) kind)
-  zero_settles u h frames' none maps there room = subst (λ (x : Touch). SettlesTo x (touch_of_place u frames' (Fork s) kind)) (sym (zero_touch none)) (subst (λ (x : Touch). SettlesTo Zero x) (sym new) (after (copy_of kind w) (λ m e. zero_room none m e)))
+  zero_settles u h frames' none maps there room = subst (λ (x : Touch). SettlesTo x (touch_of_place u frames' (Fork s) kind)) (sym (zero_touch none)) (subst (λ (x : Touch). SettlesTo Zero x) (sym new) (after (copy_for kind w) (λ m e. zero_room none m e)))
     where
-      allows_same : (k : Kind) → allows k (record w { home = Some h }) ≡ allows k w
+      allows_same : (k : Kind) → allows_along k (record w { home = Some h }) ≡ allows_along k w
       allows_same Read = refl
       allows_same Write = refl
       allows_same Execute = refl
 
-      copy_same : (k : Kind) → copy_of k (record w { home = Some h }) ≡ copy_of k w
+      copy_same : (k : Kind) → copy_for k (record w { home = Some h }) ≡ copy_for k w
       copy_same Read = refl
       copy_same Write = refl
       copy_same Execute = refl
 
-      new : touch_of_place u frames' (Fork s) kind ≡ touch_made (away_at u.places) u (scene_of u frames') (Some h) (copy_of kind w)
+      new : touch_of_place u frames' (Fork s) kind ≡ touch_made (away_at u.places) u (scene_of u frames') (Some h) (copy_for kind w)
       new =
           ap (touch_walked (away_at u.places) u (scene_of u frames') kind) (zero_walk u h none maps)
           ∙ (λ i. cond (allows_same kind i) (touch_made (away_at u.places) u (scene_of u frames') (Some h) (copy_same kind i)) (Denied kind))
-          ∙ ap (λ b. cond b (touch_made (away_at u.places) u (scene_of u frames') (Some h) (copy_of kind w)) (Denied kind)) permitted
+          ∙ ap (λ b. cond b (touch_made (away_at u.places) u (scene_of u frames') (Some h) (copy_for kind w)) (Denied kind)) permitted
 
       in_frame : (b : Bool) → SettlesTo Zero (cond b (Copy false) NeedFrame)
       in_frame true = inr (inl (false, refl))
@@ -294,16 +294,16 @@ module _ (t : Tables) (a : AreTables t) (frames : ℕ) (s : Slot) (kind : Kind) 
       after None two = inl (ap (λ o. absent_or o Ready) there)
       after (Some m) two = subst (λ o. SettlesTo Zero (touch_copy u (scene_of u frames') o (is_alone u.shares (held_entry u.maps m)))) (sym there) (copies_then (is_alone u.shares (held_entry u.maps m)) (room (two m refl)))
 
-  only_write : (k : Kind) (m : EntryAt) → copy_of k w ≡ Some m → (k ≡ Write) × (w.copy ≡ Some m)
+  only_write : (k : Kind) (m : EntryAt) → copy_for k w ≡ Some m → (k ≡ Write) × (w.copy ≡ Some m)
   only_write Read m e = absurd (cc e)
   only_write Execute m e = absurd (cc e)
   only_write Write m e = (refl, e)
 
-  pub copy_marked : (m : EntryAt) → copy_of kind w ≡ Some m → w.copy ≡ Some m
+  pub copy_marked : (m : EntryAt) → copy_for kind w ≡ Some m → w.copy ≡ Some m
   copy_marked m some = (let k = only_write kind m some in k.1)
 
   -- the entry with the mark is of a fork that lives
-  pub copy_lives : (m : EntryAt) → copy_of kind w ≡ Some m → IsSome (fork_at t.maps m.map)
+  pub copy_lives : (m : EntryAt) → copy_for kind w ≡ Some m → IsSome (fork_at t.maps m.map)
   copy_lives m some = by w.copy (copy_marked m some) walk_found.meets.copy
     where
       by : (o : Option EntryAt) → o ≡ Some m → IsCopy t.maps o (find marked walk_found.links.links) → IsSome (fork_at t.maps m.map)
@@ -311,33 +311,33 @@ module _ (t : Tables) (a : AreTables t) (frames : ℕ) (s : Slot) (kind : Kind) 
       by (Some x) e k = let same : x ≡ m = cc e in slot_lives t.maps m k.0.slot (ap (slot_of t.maps) (sym same) ∙ k.2)
 
   -- and names the page at the end, if it names one
-  pub alone_home : (h : Home) (m : EntryAt) (g : Home) (b : Access) → w.home ≡ Some h → copy_of kind w ≡ Some m → held_entry t.maps m ≡ Some (Page g b) → g ≡ h
+  pub alone_home : (h : Home) (m : EntryAt) (g : Home) (b : Access) → w.home ≡ Some h → copy_for kind w ≡ Some m → held_entry t.maps m ≡ Some (Page g b) → g ≡ h
   alone_home h m g b home some there = (let z : Some g ≡ Some h = sym (marked_home t.maps m g b there start w starts (copy_marked m some)) ∙ home in cc z)
 
   -- the page to be copied is in a frame
-  pub copy_here : (h : Home) (m : EntryAt) → w.home ≡ Some h → copy_of kind w ≡ Some m → is_here (place t.places h.0) ≡ true
+  pub copy_here : (h : Home) (m : EntryAt) → w.home ≡ Some h → copy_for kind w ≡ Some m → is_here (place t.places h.0) ≡ true
   copy_here h m home some = home_here h home (can_copy h m home some).away
 
   -- it has another name, where it is not that of the entry with the mark, or has more names than one
-  pub copy_shared : (h : Home) (m : EntryAt) (e : HeldEntry) → w.home ≡ Some h → copy_of kind w ≡ Some m → held_entry t.maps m ≡ Some e → ((g : Home) (b : Access) → e ≡ Page g b → share_of t.shares h.0 ≢ 1) → is_alone t.shares (held_entry t.maps m) ≡ false
+  pub copy_shared : (h : Home) (m : EntryAt) (e : HeldEntry) → w.home ≡ Some h → copy_for kind w ≡ Some m → held_entry t.maps m ≡ Some e → ((g : Home) (b : Access) → e ≡ Page g b → share_of t.shares h.0 ≢ 1) → is_alone t.shares (held_entry t.maps m) ≡ false
   copy_shared h m Empty home some there more = ap (is_alone t.shares) there
   copy_shared h m (Follows l b) home some there more = ap (is_alone t.shares) there
   copy_shared h m (Page g b) home some there more =
       ap (is_alone t.shares) there ∙ ap (λ (x : Home). is_alone t.shares (Some (Page x b))) (alone_home h m g b home some there) ∙ not_one (share_of t.shares h.0) (more g b refl)
 
-  copy_walk : (h : Home) (m : EntryAt) (b : Access) (q : HeldEntry) → copy_of kind w ≡ Some m → held_entry t.maps m ≡ Some q → b.c ≡ false → b.w ≡ true → Copies h (walk (with_entry t.maps m (Page h b)) start)
+  copy_walk : (h : Home) (m : EntryAt) (b : Access) (q : HeldEntry) → copy_for kind w ≡ Some m → held_entry t.maps m ≡ Some q → b.c ≡ false → b.w ≡ true → Copies h (walk (with_entry t.maps m (Page h b)) start)
   copy_walk h m b q some there plain writable =
       let k = only_write kind m some in
-      let writes : w.writes ≡ true = ap (λ (x : Kind). allows x w) (sym k.0) ∙ permitted in
+      let writes : w.writes ≡ true = ap (λ (x : Kind). allows_along x w) (sym k.0) ∙ permitted in
       walk_copied t.maps m h b q there plain writable start w starts k.1 writes
 
-  pub copy_ends : (u : Tables) (h : Home) (m : EntryAt) (b : Access) (q : HeldEntry) → copy_of kind w ≡ Some m → held_entry t.maps m ≡ Some q → b.c ≡ false → b.w ≡ true → u.maps ≡ with_entry t.maps m (Page h b) → EndsAt u.maps s h
+  pub copy_ends : (u : Tables) (h : Home) (m : EntryAt) (b : Access) (q : HeldEntry) → copy_for kind w ≡ Some m → held_entry t.maps m ≡ Some q → b.c ≡ false → b.w ≡ true → u.maps ≡ with_entry t.maps m (Page h b) → EndsAt u.maps s h
   copy_ends u h m b q some there plain writable maps =
       let c = copy_walk h m b q some there plain writable in
       record { walk = c.walk; is = ap (λ (ms : List HeldMap). walk_of ms s) maps ∙ starts_in m (Page h b) ∙ c.is; home = c.home }
 
   -- once a copy stands where the mark was
-  copy_ready : (u : Tables) (h : Home) (m : EntryAt) (b : Access) (q : HeldEntry) (frames' : ℕ) → copy_of kind w ≡ Some m → held_entry t.maps m ≡ Some q → b.c ≡ false → b.w ≡ true → u.maps ≡ with_entry t.maps m (Page h b) → away_at u.places h.0 ≡ None
+  copy_ready : (u : Tables) (h : Home) (m : EntryAt) (b : Access) (q : HeldEntry) (frames' : ℕ) → copy_for kind w ≡ Some m → held_entry t.maps m ≡ Some q → b.c ≡ false → b.w ≡ true → u.maps ≡ with_entry t.maps m (Page h b) → away_at u.places h.0 ≡ None
       → touch_of_place u frames' (Fork s) kind ≡ Ready
   copy_ready u h m b q frames' some there plain writable maps in_core =
       let k = only_write kind m some in
@@ -362,7 +362,7 @@ module _ (t : Tables) (a : AreTables t) (frames : ℕ) (s : Slot) (kind : Kind) 
     list = listed t a frames d sized owner own start s start_slot kind c w walk_found.is walk_found.meets yes
 
     -- with nothing to be made they stay
-    pub stays_told : (h : Home) → w.home ≡ Some h → copy_of kind w ≡ None → p ≡ settled p (in_map s) kind owner
+    pub stays_told : (h : Home) → w.home ≡ Some h → copy_for kind w ≡ None → p ≡ settled p (in_map s) kind owner
     stays_told h home none =
         sym (settled_stays p owner (in_map s) kind
         (list ∙ λ i. Some (blanks_some t a frames d sized owner own start s start_slot kind c w walk_found.is walk_found.meets yes h home i
@@ -373,7 +373,7 @@ module _ (t : Tables) (a : AreTables t) (frames : ℕ) (s : Slot) (kind : Kind) 
     set_first m rest h = ap (λ (x : Option (List (Making ℕ))). map_set (option_and_then (λ ms. slice_get ms 0) x)) h
 
     -- that is no map where nothing is made
-    pub stays_set : (h : Home) → w.home ≡ Some h → copy_of kind w ≡ None → None ≡ map_set (next_making p (in_map s) kind)
+    pub stays_set : (h : Home) → w.home ≡ Some h → copy_for kind w ≡ None → None ≡ map_set (next_making p (in_map s) kind)
     stays_set h home none =
         sym (ap (λ (x : Option (List (Making ℕ))). map_set (option_and_then (λ ms. slice_get ms 0) x))
         (list ∙ λ i. Some (blanks_some t a frames d sized owner own start s start_slot kind c w walk_found.is walk_found.meets yes h home i
@@ -388,7 +388,7 @@ module _ (t : Tables) (a : AreTables t) (frames : ℕ) (s : Slot) (kind : Kind) 
         ∙ sym (set_first (blank (in_map c.end)) (copies kind c) (list ∙ λ i. Some (blanks_none t a frames d sized owner own start s start_slot kind c w walk_found.is walk_found.meets yes none i ++ copies kind c)))
 
     -- and that of the first copy mark for a copy
-    pub copy_set : (h : Home) (m : EntryAt) (e : Slot) → w.home ≡ Some h → copy_of kind w ≡ Some m → slot_of t.maps m ≡ Some e → Some e.fork ≡ map_set (next_making p (in_map s) kind)
+    pub copy_set : (h : Home) (m : EntryAt) (e : Slot) → w.home ≡ Some h → copy_for kind w ≡ Some m → slot_of t.maps m ≡ Some e → Some e.fork ≡ map_set (next_making p (in_map s) kind)
     copy_set h m e home some at =
         let k = copied t a frames d sized owner own start s start_slot kind c w walk_found.is walk_found.meets yes m some in
         let z : Some e ≡ Some k.link.slot = sym at ∙ k.there in
@@ -407,7 +407,7 @@ module _ (t : Tables) (a : AreTables t) (frames : ℕ) (s : Slot) (kind : Kind) 
           (list ∙ λ i. Some (blanks_none t a frames d sized owner own start s start_slot kind c w walk_found.is walk_found.meets yes none i ++ copies kind c)))
 
       -- a copy
-      copy_told : (old : Home) (m : EntryAt) (b : Access) (q : HeldEntry) (words : List ℕ) → w.home ≡ Some old → copy_of kind w ≡ Some m → held_entry t.maps m ≡ Some q → b ≡ record full_access { x = w.executes } → share_of t.shares h.0 ≡ points_at h.0 q
+      copy_told : (old : Home) (m : EntryAt) (b : Access) (q : HeldEntry) (words : List ℕ) → w.home ≡ Some old → copy_for kind w ≡ Some m → held_entry t.maps m ≡ Some q → b ≡ record full_access { x = w.executes } → share_of t.shares h.0 ≡ points_at h.0 q
           → place t.places old.0 ≡ here words → u.names ≡ slice_set t.names h.0 (Some (next_name t.serials owner)) → u.maps ≡ with_entry t.maps m (Page h b) → u.files ≡ t.files → u.serials ≡ with_next t.serials owner → u.limit ≡ t.limit
           → content u.places d h.0 ≡ Some words → ((k : ℕ) → k ≢ h.0 → content u.places d k ≡ content t.places d k) → plain_of u d ≡ settled p (in_map s) kind owner
       copy_told old m b q words home some there access alone old_words names maps files serials limit held kept =
@@ -423,7 +423,7 @@ abbrev pub ArePages : Tables → Type 0
 ArePages t = (h : ℕ) (words : List ℕ) → place t.places h ≡ here words → IsPage words
 
 -- a page that is there is used
-pub used_settled : (t : Tables) (a : AreTables t) → ArePages t → (frames : ℕ) (s : Slot) (kind : Kind) (w : Walk) (r : Announced t frames s kind w) (owner : Tty) → IsOwner owner → (h : Home) → w.home ≡ Some h → copy_of kind w ≡ None
+pub used_settled : (t : Tables) (a : AreTables t) → ArePages t → (frames : ℕ) (s : Slot) (kind : Kind) (w : Walk) (r : Announced t frames s kind w) (owner : Tty) → IsOwner owner → (h : Home) → w.home ≡ Some h → copy_for kind w ≡ None
     → Settles t t frames frames (Fork s) kind owner
 used_settled t a pages frames s kind w r owner own h home none =
     let is = is_ready t a frames s kind w r h home none in
@@ -497,7 +497,7 @@ module _ (t : Tables) (a : AreTables t) (pages : ArePages t) (frames : ℕ) (s :
         filed = renamed_files t a owner h.0 w.end Empty end (unused t a h.0 was_free);
       }
 
-  pub copy_settled : (old : Home) (m : EntryAt) (b : Access) (q : HeldEntry) (words : List ℕ) → w.home ≡ Some old → copy_of kind w ≡ Some m → held_entry t.maps m ≡ Some q → b ≡ record full_access { x = w.executes } → is_alone t.shares (held_entry t.maps m) ≡ false
+  pub copy_settled : (old : Home) (m : EntryAt) (b : Access) (q : HeldEntry) (words : List ℕ) → w.home ≡ Some old → copy_for kind w ≡ Some m → held_entry t.maps m ≡ Some q → b ≡ record full_access { x = w.executes } → is_alone t.shares (held_entry t.maps m) ≡ false
       → place t.places old.0 ≡ here words → AreTables (home_taken t m h (here words) b owner) → ArePages (home_taken t m h (here words) b owner) → Settles t (home_taken t m h (here words) b owner) frames frames' (Fork s) kind owner
   copy_settled old m b q words home some there access shared old_words a' pages' =
       let v : Tables = home_taken t m h (here words) b owner in
@@ -517,7 +517,7 @@ module _ (t : Tables) (a : AreTables t) (pages : ArePages t) (frames : ℕ) (s :
       }
 
 -- the home of a page that one entry alone names becomes that of its copy
-module _ (t : Tables) (a : AreTables t) (pages : ArePages t) (frames : ℕ) (s : Slot) (kind : Kind) (w : Walk) (r : Announced t frames s kind w) (owner : Tty) (own : IsOwner owner) (h : Home) (m : EntryAt) (b old : Access) (words : List ℕ) (home : w.home ≡ Some h) (some : copy_of kind w ≡ Some m)
+module _ (t : Tables) (a : AreTables t) (pages : ArePages t) (frames : ℕ) (s : Slot) (kind : Kind) (w : Walk) (r : Announced t frames s kind w) (owner : Tty) (own : IsOwner owner) (h : Home) (m : EntryAt) (b old : Access) (words : List ℕ) (home : w.home ≡ Some h) (some : copy_for kind w ≡ Some m)
     (there : held_entry t.maps m ≡ Some (Page h old)) (access : b ≡ record full_access { x = w.executes }) (alone : is_alone t.shares (held_entry t.maps m) ≡ true) (old_words : place t.places h.0 ≡ here words) where
   abbrev v : Tables
   v = home_renamed t m h b owner
@@ -563,7 +563,7 @@ module _ {S : Type 0} (store : StoreMeaning S) (old new : S) (sound : IsSound st
   at_place : Settles t t' (store.spare old) (store.spare new) (Fork s) kind owner → Settles t t' (store.spare old) (store.spare new) at kind owner
   at_place = subst (λ (x : Place). Settles t t' (store.spare old) (store.spare new) x kind owner) (sym is)
 
-  pub used_stored : (h : Home) → w.home ≡ Some h → copy_of kind w ≡ None → t' ≡ t → IsUsed store h.0 old new → Settles t t' (store.spare old) (store.spare new) at kind owner
+  pub used_stored : (h : Home) → w.home ≡ Some h → copy_for kind w ≡ None → t' ≡ t → IsUsed store h.0 old new → Settles t t' (store.spare old) (store.spare new) at kind owner
   used_stored h home none same used =
       at_place (subst (λ (x : Tables). Settles t x (store.spare old) (store.spare new) (Fork s) kind owner) (sym same)
       (subst (λ n. Settles t t (store.spare old) n (Fork s) kind owner) (sym used.framed.spare) (used_settled t a sound.pages (store.spare old) s kind w r owner own h home none)))
@@ -573,7 +573,7 @@ module _ {S : Type 0} (store : StoreMeaning S) (old new : S) (sound : IsSound st
       at_place (subst (λ (x : Tables). Settles t x (store.spare old) (store.spare new) (Fork s) kind owner) (sym k.taken)
       (zero_settled t a sound.pages (store.spare old) s kind w r owner own k.home (omega (arith, k.made.below, a.homes)) k.made.was_free (store.spare new) k.made.spare none (subst AreTables k.taken a') (subst ArePages k.taken sound'.pages)))
 
-  module _ (h : Home) (m : EntryAt) (b : Access) (home : w.home ≡ Some h) (some : copy_of kind w ≡ Some m) (access : b ≡ record full_access { x = w.executes }) where
+  module _ (h : Home) (m : EntryAt) (b : Access) (home : w.home ≡ Some h) (some : copy_for kind w ≡ Some m) (access : b ≡ record full_access { x = w.executes }) where
     from : (words : List ℕ) × (place t.places h.0 ≡ here words)
     from = here_words (place t.places h.0) (home_here t a (store.spare old) s kind w r h home (can_copy t a (store.spare old) s kind w r h m home some).away)
 

@@ -18,7 +18,7 @@ use Rattle.page_contracts.specs.Changes.{PageSettled}
 use Rattle.page_contracts.specs.Pages.{IsPlace, PagesMeaning, StandsAt, can_settle}
 use Rattle.page_contracts.specs.Stores.{StoreMeaning, HomePlace, IsSound, IsUsed, Loses, RenewsOne, free, here, is_here, place, traffic}
 use Rattle.page_contracts.proofs.Losing.{loses_made, loses_used, made_one, used_one}
-use Rattle.flat_tables.specs.declared.chain_walk.Walk.{Walk}
+use Rattle.flat_tables.specs.Walks.{Walk}
 use Rattle.flat_tables.specs.declared.held_entry.EntryAt.{EntryAt}
 use Rattle.flat_tables.specs.declared.held_entry.HeldEntry.{HeldEntry}
 use Rattle.flat_tables.specs.declared.held_entry.HeldEntry.TheVariants.{Empty, Page}
@@ -28,7 +28,8 @@ use Rattle.flat_tables.specs.Serials.{serial_of, with_next}
 use Rattle.flat_pages.specs.SlotMeaning.{slots_meaning}
 use Rattle.flat_tables.specs.SlotSteps.{TakesHome}
 use Rattle.flat_tables.specs.SlotTables.{Tables, AreTables, share_of}
-use Rattle.flat_tables.specs.SlotTouches.{copy_of, has_room, is_alone, touch_of_place, walk_of}
+use Rattle.fork_maps.specs.ChainWalks.{copy_for}
+use Rattle.flat_tables.specs.SlotTouches.{has_room, is_alone, touch_of_place, walk_of}
 use Rattle.flat_tables.specs.TableSteps.{home_renamed, next_name, tables_of}
 use Rattle.flat_tables.proofs.NextSerials.{next_other, next_own}
 use Rattle.flat_pages.proofs.Settled.{Announced, CanCopy, EndsAt, Settles, alone_home, alone_stored, announced, can_copy, copy_ends, copy_here, copy_lives, copy_shared, copy_stored, home_here, one_is, ready_away, slot_lives, used_stored, walk_found, zero_ends, zero_fits, zero_stored}
@@ -65,14 +66,14 @@ module _ {P S : Type 0} (store : StoreMeaning S) (part : P → S) (mt : P → Ma
       let fits = zero_fits t a frames s kind w r none in
       record { empty = found.meets.empty none; lives = slot_lives t.maps w.end found.links.end found.meets.end; room = fits.0; frame = fits.1 }
 
-  pub can_use : (h : Home) → w.home ≡ Some h → copy_of kind w ≡ None → is_here (place t.places h.0) ≡ true
+  pub can_use : (h : Home) → w.home ≡ Some h → copy_for kind w ≡ None → is_here (place t.places h.0) ≡ true
   can_use h home none = home_here t a frames s kind w r h home (ready_away t a frames s kind w r h home none)
 
-  pub mark_held : (m : EntryAt) → copy_of kind w ≡ Some m → IsSome (held_entry t.maps m)
+  pub mark_held : (m : EntryAt) → copy_for kind w ≡ Some m → IsSome (held_entry t.maps m)
   mark_held m some = copy_held t a s w (walk_found t a frames s kind w r) kind m some
 
   -- the page at the end of the chain is to be copied into the entry with the mark
-  module _ (h : Home) (home : w.home ≡ Some h) (m : EntryAt) (some : copy_of kind w ≡ Some m) (e : HeldEntry) (there : held_entry t.maps m ≡ Some e) where
+  module _ (h : Home) (home : w.home ≡ Some h) (m : EntryAt) (some : copy_for kind w ≡ Some m) (e : HeldEntry) (there : held_entry t.maps m ≡ Some e) where
     -- what a copy asks for in the place of the page, which that entry alone names
     pub record CanRename (b : Access) : Type 0 where
       pub entry : held_entry t.maps m ≡ Some (Page h b)
@@ -176,7 +177,7 @@ module _ {P S : Type 0} (store : StoreMeaning S) (part : P → S) (mt : P → Ma
     -- a page is at the end of the chain
     module _ (h : Home) (home : w.home ≡ Some h) where
       -- it was used as it is
-      pub used_ready : copy_of kind w ≡ None → store.homes (part q) ≡ store.homes (part p) → mt q ≡ mt p → IsUsed store h.0 (part p) (part q) → PageSettled means at kind owner p q
+      pub used_ready : copy_for kind w ≡ None → store.homes (part q) ≡ store.homes (part p) → mt q ≡ mt p → IsUsed store h.0 (part p) (part q) → PageSettled means at kind owner p q
       used_ready none homes same used =
           let whole : u ≡ t = λ i. tables_of (homes i) (same i) in settled_there h (record {
             settles = used_stored store (part p) (part q) sound sound' (mt p) (mt q) a a' at s is kind w r owner own h home none whole used;
@@ -194,7 +195,7 @@ module _ {P S : Type 0} (store : StoreMeaning S) (part : P → S) (mt : P → Ma
           })
 
       -- it is copied into an entry
-      module _ (m : EntryAt) (some : copy_of kind w ≡ Some m) (e : HeldEntry) (there : held_entry t.maps m ≡ Some e) where
+      module _ (m : EntryAt) (some : copy_for kind w ≡ Some m) (e : HeldEntry) (there : held_entry t.maps m ≡ Some e) where
         abbrev access : Access
         access = record full_access { x = w.executes }
 

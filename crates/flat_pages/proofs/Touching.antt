@@ -33,11 +33,11 @@ use Rattle.plain_pages.proofs.ReferencesMade.{reference_makes, reference_denied,
 use Rattle.flat_tables.specs.declared.held_entry.EntryAt.{EntryAt}
 use Rattle.flat_tables.specs.declared.held_entry.HeldEntry.{HeldEntry}
 use Rattle.flat_tables.specs.declared.held_entry.HeldEntry.TheVariants.{Empty, Page, Follows}
-use Rattle.flat_tables.specs.declared.chain_walk.Walk.{Walk}
 use Rattle.flat_tables.specs.HeldMaps.{held_entry, name_at, nobody, name_of, entry_of, one_later}
-use Rattle.flat_tables.specs.Walks.{slot_of, walk}
+use Rattle.flat_tables.specs.Walks.{Walk, slot_of, walk}
 use Rattle.flat_tables.specs.SlotTables.{Tables, plain_of, AreTables, AreSized}
-use Rattle.flat_tables.specs.SlotTouches.{home_named, scene_of, has_room, allows, copy_of, is_alone, touch_copy, touch_made, touch_walked}
+use Rattle.fork_maps.specs.ChainWalks.{allows_along, copy_for}
+use Rattle.flat_tables.specs.SlotTouches.{home_named, scene_of, has_room, is_alone, touch_copy, touch_made, touch_walked}
 use Rattle.page_contracts.specs.Stores.{away_at}
 use Rattle.flat_tables.proofs.LivingMaps.{entry_held}
 use Rattle.flat_pages.proofs.Agreement.{entry_named, uses_home, tables_whole, tables_live}
@@ -61,7 +61,7 @@ pub none_away : (scene : Scene) (fs : List ForkName) → ((f : ForkName) → sce
 none_away scene [] none = refl
 none_away scene (f ∷ fs) none = rw (none f) (none_away scene fs none)
 
-pub allowed_is : (names : List (Option PageName)) (t : Tables) (kind : Kind) (w : Walk) (c : Chain) → Meets names t.maps w c → permits kind c ≡ allows kind w
+pub allowed_is : (names : List (Option PageName)) (t : Tables) (kind : Kind) (w : Walk) (c : Chain) → Meets names t.maps w c → permits kind c ≡ allows_along kind w
 allowed_is names t Read w c m = m.reads
 allowed_is names t Write w c m = m.writes
 allowed_is names t Execute w c m = m.executes
@@ -156,14 +156,14 @@ module _ (t : Tables) (a : AreTables t) (frames : ℕ) (d : DrumWords) (sized : 
     pub blanks_some : (h : Home) → w.home ≡ Some h → blanks {K = ℕ} c ≡ []
     blanks_some h some = let l : List (Making ℕ) = blank (in_map c.end) ∷ [] in ap (λ (n : Option PageName). cond (is_some n) [] l) (m.page ∙ ap (option_map (name_of t.names)) some)
 
-    pub copies_none : copy_of kind w ≡ None → copies {K = ℕ} kind c ≡ []
+    pub copies_none : copy_for kind w ≡ None → copies {K = ℕ} kind c ≡ []
     copies_none none = by kind none
       where
         none_in : (o : Option EntryAt) → IsCopy t.maps o (find marked c.links) → o ≡ None → copy_in {K = ℕ} c (find marked c.links) ≡ []
         none_in None is k = ap (copy_in c) is
         none_in (Some x) is k = absurd (cc k)
 
-        by : (k : Kind) → copy_of k w ≡ None → copies {K = ℕ} k c ≡ []
+        by : (k : Kind) → copy_for k w ≡ None → copies {K = ℕ} k c ≡ []
         by Read k = refl
         by Execute k = refl
         by Write k = none_in w.copy m.copy k
@@ -177,7 +177,7 @@ module _ (t : Tables) (a : AreTables t) (frames : ℕ) (d : DrumWords) (sized : 
       pub holds : held_entry t.maps x ≡ Some old
       pub list : copies {K = ℕ} kind c ≡ copy link.slot (private_access c) ∷ []
 
-    pub copied : (x : EntryAt) → copy_of kind w ≡ Some x → Copied x
+    pub copied : (x : EntryAt) → copy_for kind w ≡ Some x → Copied x
     copied x some = by kind refl some
       where
         some_in : (o : Option EntryAt) → IsCopy t.maps o (find marked c.links) → o ≡ Some x → (copies {K = ℕ} kind c ≡ copy_in c (find marked c.links)) → Copied x
@@ -186,19 +186,19 @@ module _ (t : Tables) (a : AreTables t) (frames : ℕ) (d : DrumWords) (sized : 
             let same : y ≡ x = cc k in
             record { link = is.0; first = is.1; there = ap (slot_of t.maps) (sym same) ∙ is.2; old = is.3.0; holds = ap (held_entry t.maps) (sym same) ∙ is.3.1; list = l ∙ ap (copy_in c) is.1 }
 
-        by : (k : Kind) → kind ≡ k → copy_of k w ≡ Some x → Copied x
+        by : (k : Kind) → kind ≡ k → copy_for k w ≡ Some x → Copied x
         by Read e k = absurd (cc k)
         by Execute e k = absurd (cc k)
         by Write e k = some_in w.copy m.copy k (ap (λ j. copies {K = ℕ} j c) e)
 
     -- nothing
-    granted_ready : (h : Home) → w.home ≡ Some h → copy_of kind w ≡ None → touch_of p scene (in_map s) kind owner ≡ absent_or (away_at t.places h.0) Ready
+    granted_ready : (h : Home) → w.home ≡ Some h → copy_for kind w ≡ None → touch_of p scene (in_map s) kind owner ≡ absent_or (away_at t.places h.0) Ready
     granted_ready h some none =
         let list : makings p (in_map s) kind ≡ Some [] = listed ∙ λ i. Some (blanks_some h some i ++ copies_none none i) in
         touch_roomy kind true p [] list (reference_makes p owner (in_map s) kind [] list ∙ make_none p) ∙ ap (λ o. absent_or o Ready) (page_is_away c w h e m some)
 
     -- a zero page
-    granted_zero : w.home ≡ None → copy_of kind w ≡ None → touch_of p scene (in_map s) kind owner ≡ cond (has_room t 1) (framed scene Zero) Full
+    granted_zero : w.home ≡ None → copy_for kind w ≡ None → touch_of p scene (in_map s) kind owner ≡ cond (has_room t 1) (framed scene Zero) Full
     granted_zero none no_copy =
         let list : makings p (in_map s) kind ≡ Some (blank (in_map c.end) ∷ []) = listed ∙ λ i. Some (blanks_none none i ++ copies_none no_copy i) in
         let can : CanMake p (blank (in_map c.end)) = makings_can nat_cmp_total p owner (in_map s) kind (blank (in_map c.end)) [] list in
@@ -207,7 +207,7 @@ module _ (t : Tables) (a : AreTables t) (frames : ℕ) (d : DrumWords) (sized : 
         ∙ ap (λ o. cond (has_room t 1) (absent_or o (framed scene Zero)) Full) (no_page_away c w e m none)
 
     -- a copy, which may have the only name of the old page
-    granted_copy : (h : Home) (x : EntryAt) → w.home ≡ Some h → copy_of kind w ≡ Some x → touch_of p scene (in_map s) kind owner ≡ touch_copy t scene (away_at t.places h.0) (is_alone t.shares (held_entry t.maps x))
+    granted_copy : (h : Home) (x : EntryAt) → w.home ≡ Some h → copy_for kind w ≡ Some x → touch_of p scene (in_map s) kind owner ≡ touch_copy t scene (away_at t.places h.0) (is_alone t.shares (held_entry t.maps x))
     granted_copy h x some some_copy =
         let k = copied x some_copy in
         let making : Making ℕ = copy k.link.slot (private_access c) in
@@ -230,7 +230,7 @@ module _ (t : Tables) (a : AreTables t) (frames : ℕ) (d : DrumWords) (sized : 
     at_mark_of l f = at_mark 4 (entry_at p.maps) s c l e f
 
     -- a zero page, and then a copy of it
-    granted_both : (x : EntryAt) → w.home ≡ None → copy_of kind w ≡ Some x → touch_of p scene (in_map s) kind owner ≡ cond (has_room t 2) (framed scene Zero) Full
+    granted_both : (x : EntryAt) → w.home ≡ None → copy_for kind w ≡ Some x → touch_of p scene (in_map s) kind owner ≡ cond (has_room t 2) (framed scene Zero) Full
     granted_both x none some_copy =
         let k = copied x some_copy in
         let first : Making ℕ = blank (in_map c.end) in
@@ -270,10 +270,10 @@ module _ (t : Tables) (a : AreTables t) (frames : ℕ) (d : DrumWords) (sized : 
             two = ap (λ n. nat_le (n + 1 + 1) t.limit) (tables_live t a d sized) ∙ ap (λ n. nat_le n t.limit) (omega arith)
         followed k made more (mark_names y b there at_end named) = absurd (let z : Some y ≡ None = sym named ∙ m.page ∙ ap (option_map (name_of t.names)) none in cc z)
 
-    granted_touch : touch_of p scene (in_map s) kind owner ≡ touch_made (away_at t.places) t scene w.home (copy_of kind w)
-    granted_touch = by w.home refl (copy_of kind w) refl
+    granted_touch : touch_of p scene (in_map s) kind owner ≡ touch_made (away_at t.places) t scene w.home (copy_for kind w)
+    granted_touch = by w.home refl (copy_for kind w) refl
       where
-        by : (h : Option Home) → w.home ≡ h → (x : Option EntryAt) → copy_of kind w ≡ x → touch_of p scene (in_map s) kind owner ≡ touch_made (away_at t.places) t scene h x
+        by : (h : Option Home) → w.home ≡ h → (x : Option EntryAt) → copy_for kind w ≡ x → touch_of p scene (in_map s) kind owner ≡ touch_made (away_at t.places) t scene h x
         by None none None no_copy = granted_zero none no_copy
         by None none (Some x) some = granted_both x none some
         by (Some h) home None no_copy = granted_ready h home no_copy
@@ -289,6 +289,6 @@ module _ (t : Tables) (a : AreTables t) (frames : ℕ) (d : DrumWords) (sized : 
       by (Some w) None e m = absurd m
       by (Some w) (Some c) e m = permitted (permits kind c) refl
         where
-          permitted : (b : Bool) → permits kind c ≡ b → touch_of p scene (in_map s) kind owner ≡ cond (allows kind w) (touch_made (away_at t.places) t scene w.home (copy_of kind w)) (Denied kind)
-          permitted true so = granted_touch kind c w e m so ∙ sym (ap (λ b. cond b (touch_made (away_at t.places) t scene w.home (copy_of kind w)) (Denied kind)) (sym (allowed_is t.names t kind w c m) ∙ so))
-          permitted false not_so = touch_denied kind (made_along kind (Some c) e ∙ ap (λ b. cond b (Some (blanks c ++ copies kind c)) None) not_so) ∙ sym (ap (λ b. cond b (touch_made (away_at t.places) t scene w.home (copy_of kind w)) (Denied kind)) (sym (allowed_is t.names t kind w c m) ∙ not_so))
+          permitted : (b : Bool) → permits kind c ≡ b → touch_of p scene (in_map s) kind owner ≡ cond (allows_along kind w) (touch_made (away_at t.places) t scene w.home (copy_for kind w)) (Denied kind)
+          permitted true so = granted_touch kind c w e m so ∙ sym (ap (λ b. cond b (touch_made (away_at t.places) t scene w.home (copy_for kind w)) (Denied kind)) (sym (allowed_is t.names t kind w c m) ∙ so))
+          permitted false not_so = touch_denied kind (made_along kind (Some c) e ∙ ap (λ b. cond b (Some (blanks c ++ copies kind c)) None) not_so) ∙ sym (ap (λ b. cond b (touch_made (away_at t.places) t scene w.home (copy_for kind w)) (Denied kind)) (sym (allowed_is t.names t kind w c m) ∙ not_so))

@@ -19,12 +19,11 @@ use Rattle.page_contracts.specs.declared.answers.Touch.{Touch}
 use Rattle.page_contracts.specs.declared.answers.Touch.TheVariants.{Ready, Zero, Copy, Absent, NeedFrame, Full}
 use Rattle.page_contracts.specs.Pages.{FilesMade, IsOfFilePage, PagesMeaning, Scene, SettlesHome, StandsAt, StandsInFile, StandsInSpace, TouchNeeds, UsesPlace, absent_or, framed, is_in_core, map_set, spot_of}
 use Rattle.page_contracts.specs.Stores.{StoreMeaning, HomePlace, free, away, here, IsMade, IsSound, IsUsed, RenewsOne, away_at, away_home, free_homes, is_here, is_taken, place, traffic}
-use Rattle.flat_tables.specs.declared.chain_walk.Walk.{Walk}
 use Rattle.flat_tables.specs.declared.held_entry.EntryAt.{EntryAt}
 use Rattle.flat_tables.specs.HeldMaps.{index_of, held_entry, name_at, name_of, nobody}
 use Rattle.flat_pages.specs.SlotMeaning.{place_along, slots_meaning, within}
 use Rattle.flat_tables.specs.SlotTables.{Tables, files_held, AreTables}
-use Rattle.flat_tables.specs.Walks.{walk}
+use Rattle.flat_tables.specs.Walks.{Walk, walk}
 use Rattle.flat_tables.specs.SlotTouches.{has_room, is_alone, scene_of, touch_copy, home_at, home_named, touch_filed, touch_made, touch_of_place, walk_of}
 use Rattle.machine_names.specs.Orders.{FilePage, file_page}
 use Rattle.machine_names.specs.declared.names.PageName.{PageName}

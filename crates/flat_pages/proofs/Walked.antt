@@ -17,9 +17,9 @@ use Rattle.flat_tables.specs.declared.held_entry.HeldEntry.{HeldEntry}
 use Rattle.flat_tables.specs.declared.held_entry.HeldEntry.TheVariants.{Empty, Page, Follows}
 use Rattle.flat_tables.specs.declared.held_entry.Link.{Link}
 use Rattle.flat_tables.specs.declared.held_map.HeldMap.{HeldMap}
-use Rattle.flat_tables.specs.declared.chain_walk.Walk.{Walk}
 use Rattle.flat_tables.specs.HeldMaps.{fork_at, held_entry, index_of, entry_of, name_of, maps_held, AreHeld}
-use Rattle.flat_tables.specs.Walks.{slot_of, terminal_of, next_at, walk_end, walk_behind, walk_from, walk_within, walk}
+use Rattle.fork_maps.specs.ChainWalks.{walk_end, walk_behind}
+use Rattle.flat_tables.specs.Walks.{Walk, slot_of, terminal_of, next_at, walk_from, walk_within, walk}
 use Rattle.flat_tables.proofs.LivingMaps.{entry_held, entry_gone}
 use Rattle.flat_tables.proofs.WalkSteps.{next_there}
 

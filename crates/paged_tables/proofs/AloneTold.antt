@@ -13,14 +13,13 @@ use Rattle.page_contracts.specs.Stores.{HomePlace, StoreMeaning, here, is_taken,
 use Rattle.plain_pages.specs.Maps.{full_access}
 use Rattle.plain_pages.specs.References.{in_map, settled}
 use Rattle.share_table.specs.Pointers.{pointer_word}
-use Rattle.pager_walk.specs.declared.chain_walk.Way.{Way}
 use Rattle.pager_walk.specs.declared.chain_walk.Walked.TheVariants.{Along}
 use Rattle.pager_walk.specs.declared.paged_entry.Looked.TheVariants.{Is}
 use Rattle.pager_walk.specs.declared.paged_entry.PagedEntry.{PagedEntry}
 use Rattle.pager_walk.specs.declared.paged_entry.PagedEntry.TheVariants as paged
 use Rattle.pager_walk.specs.MapPages.{index_of}
 use Rattle.pager_walk.specs.PagedMaps.{entry_in, name_at}
-use Rattle.pager_walk.specs.Walks.{IsNearSlot, WayStands, walk_at}
+use Rattle.pager_walk.specs.Walks.{Way, IsNearSlot, WayStands, walk_at}
 use Rattle.pager_walk.proofs.Changing.{entry_back}
 use Rattle.pager_walk.proofs.Looking.{ArePages}
 use Rattle.flat_tables.specs.declared.held_entry.HeldEntry.TheVariants.{Page}
@@ -34,7 +33,8 @@ use Rattle.flat_tables.proofs.Taking.{renamed_tables}
 use Rattle.paged_tables.specs.MadePages.{RenamesPage, pointer_to}
 use Rattle.paged_tables.specs.MapsInMemory.{in_memory}
 use Rattle.paged_tables.specs.PagedTables.{Beside, AreKept, FitsPages, in_memory_over, plain_over}
-use Rattle.paged_tables.specs.PagedTouches.{alone_at, alone_in, copy_for, walk_touched}
+use Rattle.fork_maps.specs.ChainWalks.{copy_for}
+use Rattle.paged_tables.specs.PagedTouches.{alone_at, alone_in, walk_touched}
 use Rattle.paged_tables.proofs.EntryPut.{Held, held_at, memory_put, pages_put}
 use Rattle.paged_tables.proofs.Homed.{flat_pages}
 use Rattle.paged_tables.proofs.MemoryWays.{CopyEntry, MemoryWay, copy_entry, memory_announced, memory_way}

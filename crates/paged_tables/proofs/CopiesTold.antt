@@ -14,14 +14,13 @@ use Rattle.page_contracts.specs.Pages.{can_settle}
 use Rattle.page_contracts.specs.Stores.{HomePlace, StoreMeaning, here, place}
 use Rattle.plain_pages.specs.Maps.{full_access}
 use Rattle.plain_pages.specs.References.{in_map, settled}
-use Rattle.pager_walk.specs.declared.chain_walk.Way.{Way}
 use Rattle.pager_walk.specs.declared.chain_walk.Walked.TheVariants.{Along}
 use Rattle.pager_walk.specs.declared.paged_entry.Looked.TheVariants.{Is}
 use Rattle.pager_walk.specs.declared.paged_entry.PagedEntry.{PagedEntry}
 use Rattle.pager_walk.specs.declared.paged_entry.PagedEntry.TheVariants as paged
 use Rattle.pager_walk.specs.MapPages.{index_of}
 use Rattle.pager_walk.specs.PagedMaps.{look_at}
-use Rattle.pager_walk.specs.Walks.{IsNearSlot, WayStands, walk_at}
+use Rattle.pager_walk.specs.Walks.{Way, IsNearSlot, WayStands, walk_at}
 use Rattle.pager_walk.proofs.Looking.{ArePages}
 use Rattle.flat_tables.specs.declared.held_entry.EntryAt.{EntryAt}
 use Rattle.flat_tables.specs.HeldMaps.{points_at}
@@ -39,7 +38,8 @@ use Rattle.paged_tables.specs.MadePages.{MakesPage}
 use Rattle.paged_tables.specs.MapsInMemory.{in_memory}
 use Rattle.paged_tables.specs.NameCounts.{counts}
 use Rattle.paged_tables.specs.PagedTables.{Beside, AreKept, FitsPages, in_memory_over, plain_over}
-use Rattle.paged_tables.specs.PagedTouches.{alone_at, alone_in, copy_for, has_one_name, names_at, roomy, walk_touched}
+use Rattle.fork_maps.specs.ChainWalks.{copy_for}
+use Rattle.paged_tables.specs.PagedTouches.{alone_at, alone_in, has_one_name, names_at, roomy, walk_touched}
 use Rattle.paged_tables.proofs.Counted.{counts_at}
 use Rattle.paged_tables.proofs.EntryPut.{Held, held_at}
 use Rattle.paged_tables.proofs.Homed.{flat_pages}

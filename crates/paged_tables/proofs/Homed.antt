@@ -18,17 +18,15 @@ use Rattle.page_contracts.specs.DrumWords.{DrumWords}
 use Rattle.page_contracts.specs.Pages.{Scene, IsPlace, PeekNeeds, TouchNeeds, touch_of, away_or, counted, map_away as maps_away, peek_of, spot_of}
 use Rattle.page_contracts.specs.Stores.{HomePlace, StoreMeaning, free, away, here, is_taken, place}
 use Rattle.plain_pages.specs.References.{page_at as named_at, word_at, words_of}
-use Rattle.pager_walk.specs.declared.chain_walk.Way.{Way}
 use Rattle.pager_walk.specs.declared.chain_walk.Walked.{Walked}
 use Rattle.pager_walk.specs.declared.chain_walk.Walked.TheVariants.{Along, Absent, NoChain}
 use Rattle.pager_walk.specs.MapPages.{index_of}
 use Rattle.pager_walk.specs.PagedMaps.{map_away, name_at, name_of}
-use Rattle.pager_walk.specs.Walks.{TellsWalk, WalkStands, walk_at}
+use Rattle.pager_walk.specs.Walks.{Way, TellsWalk, WalkStands, walk_at}
 use Rattle.pager_walk.proofs.Looking.{ArePages, taken_map}
 use Rattle.pager_walk.proofs.Walking.{stood, walked}
-use Rattle.flat_tables.specs.declared.chain_walk.Walk.{Walk}
 use Rattle.flat_tables.specs.HeldMaps as flat
-use Rattle.flat_tables.specs.Walks.{walk}
+use Rattle.flat_tables.specs.Walks.{Walk, walk}
 use Rattle.flat_tables.specs.SlotTables.{Tables as FlatTables, AreSized}
 use Rattle.flat_tables.specs.SlotTouches.{home_at, scene_of, walk_of}
 use Rattle.flat_pages.proofs.Meeting.{Reached, reached, unreached, reached_counted, reached_word, peek_here, peek_away, peek_none}

@@ -19,11 +19,11 @@ use Rattle.page_contracts.specs.declared.answers.Touch.TheVariants.{Ready, Zero,
 use Rattle.page_contracts.specs.Pages.{CanChange, IsPlace, absent_or, touch_of}
 use Rattle.page_contracts.specs.Stores.{HomePlace, free, away, here, away_home, away_at, is_here, is_taken, place}
 use Rattle.plain_pages.specs.References.{in_map}
-use Rattle.pager_walk.specs.declared.chain_walk.Way.{Way}
 use Rattle.pager_walk.specs.declared.chain_walk.Walked.{Walked}
 use Rattle.pager_walk.specs.declared.chain_walk.Walked.TheVariants.{Along, Absent, NoChain}
 use Rattle.pager_walk.specs.MapPages.{fork_at, index_of}
-use Rattle.pager_walk.specs.Walks.{allows_along, walk_at}
+use Rattle.fork_maps.specs.ChainWalks.{allows_along, copy_for}
+use Rattle.pager_walk.specs.Walks.{Way, walk_at}
 use Rattle.pager_walk.proofs.Looking.{ArePages}
 use Rattle.pager_walk.proofs.NumberedMaps.{index_fork}
 use Rattle.paged_tables.specs.declared.known_page.KnownPage.{KnownPage}
@@ -32,7 +32,7 @@ use Rattle.paged_tables.specs.KnownPages.{found_known, known_along, known_of, kn
 use Rattle.paged_tables.specs.PageHomes.{homed_along}
 use Rattle.paged_tables.specs.PagedSlots.{space_over}
 use Rattle.paged_tables.specs.PagedTables.{Beside, AreKept, FitsPages, plain_over}
-use Rattle.paged_tables.specs.PagedTouches.{alone_at, copy_for, made_touched, roomy, scene_over, touched_over, walk_touched}
+use Rattle.paged_tables.specs.PagedTouches.{alone_at, made_touched, roomy, scene_over, touched_over, walk_touched}
 use Rattle.paged_tables.proofs.Homed.{homed_taken, place_stands, touch_told}
 use Rattle.paged_tables.proofs.ReadyHomes.{absent_not, framed_not, roomy_not, words_here}
 

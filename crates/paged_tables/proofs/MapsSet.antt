@@ -18,16 +18,16 @@ use Rattle.page_contracts.specs.Pages.{can_settle, map_set}
 use Rattle.page_contracts.specs.Stores.{HomePlace}
 use Rattle.plain_pages.specs.PlainPages.{NumberedPages}
 use Rattle.plain_pages.specs.References.{in_file, in_its_file, in_map, makings, next_making}
-use Rattle.pager_walk.specs.declared.chain_walk.Way.{Way}
 use Rattle.pager_walk.specs.declared.chain_walk.Walked.TheVariants.{Along}
 use Rattle.pager_walk.specs.MapPages.{index_of}
-use Rattle.pager_walk.specs.Walks.{WayStands, walk_at}
+use Rattle.pager_walk.specs.Walks.{Way, WayStands, walk_at}
 use Rattle.pager_walk.proofs.Looking.{ArePages}
 use Rattle.flat_tables.specs.SlotTables.{AreSized, Tables as FlatTables}
 use Rattle.flat_pages.proofs.Settled.{Announced, copy_set, stays_set, zero_set}
 use Rattle.flat_pages.proofs.Settling.{sized_of}
 use Rattle.paged_tables.specs.PagedTables.{AreKept, Beside, FitsPages, in_memory_over, plain_over}
-use Rattle.paged_tables.specs.PagedTouches.{copy_for, walk_touched}
+use Rattle.fork_maps.specs.ChainWalks.{copy_for}
+use Rattle.paged_tables.specs.PagedTouches.{walk_touched}
 use Rattle.paged_tables.proofs.Homed.{flat_pages}
 use Rattle.paged_tables.proofs.MemoryWays.{MemoryWay, copy_entry, copy_none, memory_announced, memory_way}
 use Rattle.paged_tables.proofs.Places.{fits_places}

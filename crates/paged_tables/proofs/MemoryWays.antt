@@ -7,19 +7,18 @@ use Rattle.machine_names.specs.declared.names.TheConstants.{SPACE_PAGES}
 use Rattle.page_contracts.specs.DrumWords.{DrumWords}
 use Rattle.page_contracts.specs.Pages.{can_settle}
 use Rattle.page_contracts.specs.Stores.{HomePlace, away_at}
-use Rattle.pager_walk.specs.declared.chain_walk.Way.{Way}
 use Rattle.pager_walk.specs.declared.chain_walk.Walked.{Walked}
 use Rattle.pager_walk.specs.declared.chain_walk.Walked.TheVariants.{Along}
 use Rattle.pager_walk.specs.MapPages.{index_of}
-use Rattle.pager_walk.specs.Walks.{WayStands, walk_at}
+use Rattle.pager_walk.specs.Walks.{Way, WayStands, walk_at}
 use Rattle.pager_walk.proofs.Looking.{ArePages}
 use Rattle.flat_tables.specs.declared.held_entry.EntryAt.{EntryAt}
-use Rattle.flat_tables.specs.declared.chain_walk.Walk.{Walk}
-use Rattle.flat_tables.specs.Walks.{slot_of, walk}
-use Rattle.flat_tables.specs.SlotTouches.{copy_of, scene_of, touch_walked}
+use Rattle.flat_tables.specs.Walks.{Walk, slot_of, walk}
+use Rattle.fork_maps.specs.ChainWalks.{copy_for}
+use Rattle.flat_tables.specs.SlotTouches.{scene_of, touch_walked}
 use Rattle.flat_pages.proofs.Settled.{Announced}
 use Rattle.paged_tables.specs.PagedTables.{Beside, AreKept, FitsPages, in_memory_over}
-use Rattle.paged_tables.specs.PagedTouches.{copy_for, walk_touched}
+use Rattle.paged_tables.specs.PagedTouches.{walk_touched}
 use Rattle.paged_tables.proofs.Homed.{walk_is}
 use Rattle.paged_tables.proofs.Touched.{along_same}
 use Rattle.paged_tables.proofs.WalksTold.{IsSameCopy, IsSameWalk, IsSameWay, index_same, maps, walk_told}
@@ -60,7 +59,7 @@ module _ (b : Beside) (places : List HomePlace) (kept : AreKept b places) (pages
 -- the first copy mark stands in one entry
 pub record CopyEntry (b : Beside) (places : List HomePlace) (d : DrumWords) (kind : Kind) (v : Walk) (m : Slot) : Type 0 where
   pub entry : EntryAt
-  pub some : copy_of kind v ≡ Some entry
+  pub some : copy_for kind v ≡ Some entry
   pub slot : slot_of (maps b.tables places d) entry ≡ Some m
 
 pub copy_entry : (b : Beside) (places : List HomePlace) (d : DrumWords) (w : Way) (v : Walk) → IsSameWay (maps b.tables places d) w v → (kind : Kind) (m : Slot) → copy_for kind w ≡ Some m → CopyEntry b places d kind v m
@@ -74,7 +73,7 @@ copy_entry b places d w v same Write m e = by w.copy v.copy refl e same.copy
     by (Some s) (Some x) k f c = record { entry = x; some = k; slot = c ∙ f }
 
 -- or there is none
-pub copy_none : (b : Beside) (places : List HomePlace) (d : DrumWords) (w : Way) (v : Walk) → IsSameWay (maps b.tables places d) w v → (kind : Kind) → copy_for kind w ≡ None → copy_of kind v ≡ None
+pub copy_none : (b : Beside) (places : List HomePlace) (d : DrumWords) (w : Way) (v : Walk) → IsSameWay (maps b.tables places d) w v → (kind : Kind) → copy_for kind w ≡ None → copy_for kind v ≡ None
 copy_none b places d w v same Read e = refl
 copy_none b places d w v same Execute e = refl
 copy_none b places d w v same Write e = by w.copy v.copy refl e same.copy

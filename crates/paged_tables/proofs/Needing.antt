@@ -12,9 +12,10 @@ use Rattle.page_contracts.specs.Pages.{TouchNeeds, absent_or}
 use Rattle.page_contracts.specs.Stores.{HomePlace, StoreMeaning, free, away, here, away_home, away_at, place}
 use Rattle.pager_walk.specs.declared.chain_walk.Walked.{Walked}
 use Rattle.pager_walk.specs.declared.chain_walk.Walked.TheVariants.{Along, Absent, NoChain}
-use Rattle.pager_walk.specs.Walks.{WalkStands, allows_along}
+use Rattle.fork_maps.specs.ChainWalks.{allows_along, copy_for}
+use Rattle.pager_walk.specs.Walks.{WalkStands}
 use Rattle.paged_tables.specs.PagedTables.{Beside}
-use Rattle.paged_tables.specs.PagedTouches.{alone_at, copy_for, file_touched, made_touched, roomy, scene_over, walk_touched}
+use Rattle.paged_tables.specs.PagedTouches.{alone_at, file_touched, made_touched, roomy, scene_over, walk_touched}
 
 module _ {P : Type 0} (store : StoreMeaning P) (p : P) (b : Beside) where
   abbrev places : List HomePlace

@@ -23,11 +23,11 @@ use Rattle.page_contracts.proofs.Losing.{loses_used, used_one}
 use Rattle.plain_pages.specs.Maps.{full_access}
 use Rattle.plain_pages.specs.References.{in_map, next_making, settled}
 use Rattle.share_table.specs.Shares.{Shares}
-use Rattle.pager_walk.specs.declared.chain_walk.Way.{Way}
 use Rattle.pager_walk.specs.declared.chain_walk.Walked.TheVariants.{Along}
 use Rattle.pager_walk.specs.MapPages.{index_of}
 use Rattle.pager_walk.specs.PagedMaps.{look_at, map_away}
-use Rattle.pager_walk.specs.Walks.{WayStands, allows_along, walk_at}
+use Rattle.fork_maps.specs.ChainWalks.{allows_along, copy_for}
+use Rattle.pager_walk.specs.Walks.{Way, WayStands, walk_at}
 use Rattle.pager_walk.proofs.Looking.{ArePages}
 use Rattle.flat_tables.specs.SlotTouches.{home_named}
 use Rattle.flat_pages.proofs.Settled.{stays_told}
@@ -37,7 +37,7 @@ use Rattle.paged_tables.specs.LeftShares.{left_of}
 use Rattle.paged_tables.specs.MadePages.{FilesPage, MakesPage, RenamesPage}
 use Rattle.paged_tables.specs.PageHomes.{homed, homed_along, homed_over}
 use Rattle.paged_tables.specs.PagedTables.{Beside, AreKept, FitsPages, in_memory_over, plain_over}
-use Rattle.paged_tables.specs.PagedTouches.{alone_at, copy_for, file_touched, has_one_name, roomy, scene_over, touched_over, walk_touched}
+use Rattle.paged_tables.specs.PagedTouches.{alone_at, file_touched, has_one_name, roomy, scene_over, touched_over, walk_touched}
 use Rattle.paged_tables.specs.PlacesSettled.{FilesSettled, SettlesPlace}
 use Rattle.paged_tables.proofs.AloneTold.{alone_settled_told}
 use Rattle.paged_tables.proofs.CopiesTold.{copy_told}

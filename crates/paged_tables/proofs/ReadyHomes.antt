@@ -14,15 +14,15 @@ use Rattle.page_contracts.specs.declared.answers.Touch.{Touch}
 use Rattle.page_contracts.specs.declared.answers.Touch.TheVariants.{Ready, Zero, Copy, NeedFrame, Denied, Full}
 use Rattle.page_contracts.specs.Pages.{Scene, absent_or}
 use Rattle.page_contracts.specs.Stores.{HomePlace, free, away, here, away_home, away_at, is_taken, place}
-use Rattle.pager_walk.specs.declared.chain_walk.Way.{Way}
 use Rattle.pager_walk.specs.declared.chain_walk.Walked.{Walked}
 use Rattle.pager_walk.specs.declared.chain_walk.Walked.TheVariants.{Along, Absent, NoChain}
-use Rattle.pager_walk.specs.Walks.{allows_along, walk_at}
+use Rattle.fork_maps.specs.ChainWalks.{allows_along, copy_for}
+use Rattle.pager_walk.specs.Walks.{Way, walk_at}
 use Rattle.paged_tables.specs.declared.page_home.PageHome.{PageHome}
 use Rattle.paged_tables.specs.declared.page_home.PageHome.TheVariants.{At}
 use Rattle.paged_tables.specs.PageHomes.{homed, homed_along, homed_over}
 use Rattle.paged_tables.specs.PagedTables.{Beside}
-use Rattle.paged_tables.specs.PagedTouches.{alone_at, copy_for, file_touched, made_touched, roomy, scene_over, touched_over, walk_touched}
+use Rattle.paged_tables.specs.PagedTouches.{alone_at, file_touched, made_touched, roomy, scene_over, touched_over, walk_touched}
 
 -- a home that is taken and not away has its page in a frame
 pub words_here : (places : List HomePlace) (h : ℕ) → is_taken (place places h) ≡ true → away_at places h ≡ None → (words : List ℕ) × (place places h ≡ here words)

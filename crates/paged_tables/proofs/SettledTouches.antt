@@ -13,10 +13,10 @@ use Rattle.page_contracts.specs.declared.answers.Touch.{Touch}
 use Rattle.page_contracts.specs.declared.answers.Touch.TheVariants.{Ready, Zero, Copy, NeedFrame, Denied, Full}
 use Rattle.page_contracts.specs.Pages.{SettlesTo, absent_or, can_settle, framed}
 use Rattle.page_contracts.specs.Stores.{HomePlace, away_at, here, is_taken, place}
-use Rattle.pager_walk.specs.declared.chain_walk.Way.{Way}
 use Rattle.pager_walk.specs.declared.chain_walk.Walked.{Walked}
 use Rattle.pager_walk.specs.declared.chain_walk.Walked.TheVariants.{Along}
-use Rattle.pager_walk.specs.Walks.{WayStands, allows_along, walk_at}
+use Rattle.fork_maps.specs.ChainWalks.{allows_along, copy_for}
+use Rattle.pager_walk.specs.Walks.{Way, WayStands, walk_at}
 use Rattle.pager_walk.specs.declared.paged_entry.Looked.{Looked}
 use Rattle.pager_walk.specs.declared.paged_entry.Looked.TheVariants.{Is, Absent, Missing, Refused}
 use Rattle.pager_walk.specs.declared.paged_entry.PagedEntry.TheVariants.{Empty, Page, Follows}
@@ -24,7 +24,7 @@ use Rattle.pager_walk.specs.PagedMaps.{look_at, name_at}
 use Rattle.pager_walk.proofs.Looking.{taken_map}
 use Rattle.flat_pages.proofs.Settled.{can_copying, copying}
 use Rattle.paged_tables.specs.PagedTables.{AreKept, Beside}
-use Rattle.paged_tables.specs.PagedTouches.{alone_at, alone_in, copy_for, copy_touched, file_touched, has_one_name, made_touched, roomy, scene_over, walk_touched}
+use Rattle.paged_tables.specs.PagedTouches.{alone_at, alone_in, copy_touched, file_touched, has_one_name, made_touched, roomy, scene_over, walk_touched}
 use Rattle.paged_tables.proofs.ReadyHomes.{words_here}
 use Rattle.paged_tables.proofs.WalksSet.{Copied, page_marked}
 

@@ -20,12 +20,13 @@ use Rattle.pager_walk.specs.declared.chain_walk.Walked.{Walked}
 use Rattle.pager_walk.specs.declared.chain_walk.Walked.TheVariants.{Along, Absent, NoChain}
 use Rattle.pager_walk.specs.MapPages.{fork_at, root_at, index_of}
 use Rattle.pager_walk.specs.PagedMaps.{Tables, look_at, look_map, look_word}
-use Rattle.pager_walk.specs.Walks.{allows_along, walk_at, walk_from, walk_within}
+use Rattle.fork_maps.specs.ChainWalks.{allows_along, copy_for}
+use Rattle.pager_walk.specs.Walks.{walk_at, walk_from, walk_within}
 use Rattle.pager_walk.proofs.NumberedMaps.{index_fork}
 use Rattle.flat_tables.specs.SlotTouches.{home_named}
 use Rattle.paged_tables.specs.KnownPages.{found_known, known_along, known_of, known_over, place_over}
 use Rattle.paged_tables.specs.PagedTables.{Beside}
-use Rattle.paged_tables.specs.PagedTouches.{alone_in, copy_for, file_touched, made_touched, scene_over, touched_over, walk_touched}
+use Rattle.paged_tables.specs.PagedTouches.{alone_in, file_touched, made_touched, scene_over, touched_over, walk_touched}
 use Rattle.paged_tables.proofs.Places.{IsNoRoot}
 
 -- the pages of maps are as they are

@@ -23,7 +23,6 @@ use Rattle.page_contracts.specs.Stores.{HomePlace, away_at, away_home, is_taken}
 use Rattle.plain_pages.specs.PlainPages.{NumberedPages}
 use Rattle.plain_pages.specs.Maps.{entry_at, maps_on_way}
 use Rattle.plain_pages.specs.References.{Referred, Spot, in_file, in_map, granted, denied, full, reference}
-use Rattle.pager_walk.specs.declared.chain_walk.Way.{Way}
 use Rattle.pager_walk.specs.declared.chain_walk.Walked.{Walked}
 use Rattle.pager_walk.specs.declared.chain_walk.Walked.TheVariants.{Along, Absent, NoChain}
 use Rattle.pager_walk.specs.declared.paged_entry.Looked.{Looked}
@@ -31,19 +30,19 @@ use Rattle.pager_walk.specs.declared.paged_entry.Looked.TheVariants.{Is, Absent 
 use Rattle.pager_walk.specs.declared.paged_entry.PagedEntry.TheVariants.{Empty, Page, Follows}
 use Rattle.pager_walk.specs.MapPages.{index_of}
 use Rattle.pager_walk.specs.PagedMaps.{AreRooted, look_at, is_near, map_away, maps_over, name_at}
-use Rattle.pager_walk.specs.Walks.{IsNearSlot, TellsWalk, WalkStands, WayStands, allows_along, first_absent, walk_at}
+use Rattle.pager_walk.specs.Walks.{Way, IsNearSlot, TellsWalk, WalkStands, WayStands, first_absent, walk_at}
 use Rattle.pager_walk.proofs.Looking.{ArePages}
 use Rattle.pager_walk.proofs.NumberedMaps.{index_is}
 use Rattle.flat_tables.specs.declared.held_entry.EntryAt.{EntryAt}
 use Rattle.flat_tables.specs.declared.held_map.HeldMap.{HeldMap}
-use Rattle.flat_tables.specs.declared.chain_walk.Walk.{Walk}
 use Rattle.flat_tables.specs.HeldMaps as flat
-use Rattle.flat_tables.specs.Walks.{slot_of, walk}
+use Rattle.flat_tables.specs.Walks.{Walk, slot_of, walk}
 use Rattle.flat_tables.specs.declared.held_entry.HeldEntry.TheVariants as flat_entry
 use Rattle.flat_tables.specs.HeldMaps.{points_at}
 use Rattle.flat_tables.specs.SlotTables.{Tables as FlatTables, filed_total, share_of}
 use Rattle.flat_tables.proofs.HeldEntries.{points_self, total_le}
-use Rattle.flat_tables.specs.SlotTouches.{allows, copy_of, home_named, is_alone, scene_of, touch_copy, touch_filed, touch_made, touch_walked}
+use Rattle.fork_maps.specs.ChainWalks.{allows_along, copy_for}
+use Rattle.flat_tables.specs.SlotTouches.{home_named, is_alone, scene_of, touch_copy, touch_filed, touch_made, touch_walked}
 use Rattle.flat_pages.proofs.FileTouches.{file_told}
 use Rattle.flat_pages.proofs.Meeting.{place_told}
 use Rattle.flat_pages.proofs.Settling.{sized_of}
@@ -51,7 +50,7 @@ use Rattle.flat_pages.proofs.Telling.{named_home}
 use Rattle.flat_pages.proofs.Touching.{none_away}
 use Rattle.paged_tables.specs.PagedPlaces.{page_places}
 use Rattle.paged_tables.specs.PagedTables.{Beside, FitsPages, in_memory_over, plain_over}
-use Rattle.paged_tables.specs.PagedTouches.{alone_at, alone_in, copy_for, copy_touched, file_touched, has_one_name, made_touched, names_at, scene_over, walk_touched}
+use Rattle.paged_tables.specs.PagedTouches.{alone_at, alone_in, copy_touched, file_touched, has_one_name, made_touched, names_at, scene_over, walk_touched}
 use Rattle.paged_tables.proofs.Counted.{counts_at}
 use Rattle.paged_tables.proofs.MapsTold.{maps_told}
 use Rattle.paged_tables.proofs.Places.{IsNoRoot, fits_places, place_here, place_same}
@@ -184,7 +183,7 @@ module _ (b : Beside) (places : List HomePlace) (rooted : AreRooted b.tables (ma
       made_scene absent frames (Some h) (Some false) = refl
 
       module _ (frames : ℕ) (w : Way) (v : Walk) (stands : WayStands b.tables places w) (same : IsSameWay (maps b.tables places d) w v) where
-        allow_same : (kind : Kind) → allows kind v ≡ allows_along kind w
+        allow_same : (kind : Kind) → allows_along kind v ≡ allows_along kind w
         allow_same Read = same.reads
         allow_same Write = same.writes
         allow_same Execute = same.executes
@@ -205,14 +204,14 @@ module _ (b : Beside) (places : List HomePlace) (rooted : AreRooted b.tables (ma
         none_copied : (s : Slot) → ◌≡◌ {A = Option Slot} None (Some s) → IsNearSlot b.tables places s
         none_copied s e = absurd (cc e)
 
-        copied : (kind : Kind) → touch_made (away_at u.places) u (scene_of u frames) w.home (copy_of kind v) ≡ made_touched (away_at places) b (scene_of u frames) w.home (option_map (alone_at b places) (copy_for kind w))
+        copied : (kind : Kind) → touch_made (away_at u.places) u (scene_of u frames) w.home (copy_for kind v) ≡ made_touched (away_at places) b (scene_of u frames) w.home (option_map (alone_at b places) (copy_for kind w))
         copied Read = made_same w.home refl None None tt none_copied
         copied Write = made_same w.home refl w.copy v.copy same.copy stands.copy
         copied Execute = made_same w.home refl None None tt none_copied
 
         pub along_same : (kind : Kind) → touch_walked (away_at u.places) u (scene_of u frames) kind (Some v) ≡ walk_touched b places frames kind (Along w)
         along_same kind =
-            (λ i. cond (allow_same kind i) (touch_made (away_at u.places) u (scene_of u frames) (same.home i) (copy_of kind v)) (Denied kind))
+            (λ i. cond (allow_same kind i) (touch_made (away_at u.places) u (scene_of u frames) (same.home i) (copy_for kind v)) (Denied kind))
             ∙ ap (λ x. cond (allows_along kind w) x (Denied kind)) (copied kind ∙ made_scene (away_at places) frames w.home (option_map (alone_at b places) (copy_for kind w)))
 
       -- a touch of a page of a living fork's space answers as told

@@ -6,14 +6,14 @@ use Rattle.machine_names.specs.declared.names.Slot.{Slot}
 use Rattle.page_homes.specs.declared.homes.Home.{Home}
 use Rattle.page_contracts.specs.Stores.{HomePlace}
 use Rattle.plain_pages.specs.Maps.{followed, full_access}
-use Rattle.pager_walk.specs.declared.chain_walk.Way.{Way}
 use Rattle.pager_walk.specs.declared.chain_walk.Walked.{Walked}
 use Rattle.pager_walk.specs.declared.chain_walk.Walked.TheVariants.{Along, Absent, NoChain}
 use Rattle.pager_walk.specs.declared.paged_entry.Looked.{Looked}
 use Rattle.pager_walk.specs.declared.paged_entry.Looked.TheVariants.{Is, Absent as MapAbsent, Missing, Refused}
 use Rattle.pager_walk.specs.declared.paged_entry.PagedEntry.TheVariants.{Empty, Page, Follows}
 use Rattle.pager_walk.specs.PagedMaps.{Tables, look_at}
-use Rattle.pager_walk.specs.Walks.{walk_at, walk_behind, walk_end, walk_from, walk_within, walked_behind}
+use Rattle.fork_maps.specs.ChainWalks.{walk_behind, walk_end}
+use Rattle.pager_walk.specs.Walks.{Way, walk_at, walk_from, walk_within, walked_behind}
 use Rattle.paged_tables.proofs.EntryLooks.{SetsOne}
 
 -- whether an entry has the copy mark

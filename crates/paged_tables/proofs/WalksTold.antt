@@ -15,7 +15,7 @@ use Rattle.pager_walk.specs.declared.paged_entry.PagedEntry.{PagedEntry}
 use Rattle.pager_walk.specs.declared.paged_entry.PagedEntry.TheVariants.{Empty, Page, Follows}
 use Rattle.pager_walk.specs.declared.paged_entry.Looked.{Looked}
 use Rattle.pager_walk.specs.declared.paged_entry.Looked.TheVariants.{Is, Absent as MapAbsent, Missing, Refused}
-use Rattle.pager_walk.specs.declared.chain_walk.Way.{Way}
+use Rattle.pager_walk.specs.Walks.{Way}
 use Rattle.pager_walk.specs.declared.chain_walk.Walked.{Walked}
 use Rattle.pager_walk.specs.declared.chain_walk.Walked.TheVariants.{Along, Absent, NoChain}
 use Rattle.pager_walk.specs.MapPages.{fork_at, root_at, index_of}
@@ -29,9 +29,9 @@ use Rattle.flat_tables.specs.declared.held_entry.HeldEntry.{HeldEntry}
 use Rattle.flat_tables.specs.declared.held_entry.HeldEntry.TheVariants as entry
 use Rattle.flat_tables.specs.declared.held_entry.Link.{Link}
 use Rattle.flat_tables.specs.declared.held_map.HeldMap.{HeldMap}
-use Rattle.flat_tables.specs.declared.chain_walk.Walk.{Walk}
 use Rattle.flat_tables.specs.HeldMaps as flat
-use Rattle.flat_tables.specs.Walks.{slot_of, terminal_of, next_at, walk, walk_behind, walk_end, walk_from, walk_within}
+use Rattle.fork_maps.specs.ChainWalks.{walk_behind, walk_end}
+use Rattle.flat_tables.specs.Walks.{Walk, slot_of, terminal_of, next_at, walk, walk_from, walk_within}
 use Rattle.paged_tables.specs.MapsInMemory.{entry_held, in_memory, maps_in_memory}
 use Rattle.paged_tables.proofs.MapsTold.{entry_told, fork_told, index_told}
 
@@ -120,10 +120,10 @@ module _ (t : Tables) (places : List HomePlace) (d : DrumWords) where
     copy_marked true s at o x is rest = is
     copy_marked false s at o x is rest = rest
 
-    ended : (s : Slot) (at : EntryAt) (a : Access) (home : Option Home) → slot_of maps at ≡ Some s → IsSameWay maps (paged.walk_end s a home) (walk_end at a home)
+    ended : (s : Slot) (at : EntryAt) (a : Access) (home : Option Home) → slot_of maps at ≡ Some s → IsSameWay maps (walk_end s a home) (walk_end at a home)
     ended s at a home is = record { end = is; home = refl; reads = refl; writes = refl; executes = refl; copy = copy_marked a.c s at None None is tt }
 
-    behind : (s : Slot) (at : EntryAt) (a : Access) (w : Way) (v : Walk) → slot_of maps at ≡ Some s → IsSameWay maps w v → IsSameWay maps (paged.walk_behind s a w) (walk_behind at a v)
+    behind : (s : Slot) (at : EntryAt) (a : Access) (w : Way) (v : Walk) → slot_of maps at ≡ Some s → IsSameWay maps w v → IsSameWay maps (walk_behind s a w) (walk_behind at a v)
     behind s at a w v is same = record {
       end = same.end;
       home = same.home;
@@ -171,9 +171,9 @@ module _ (t : Tables) (places : List HomePlace) (d : DrumWords) where
 
     from : (n : ℕ) (s : Slot) (k : ℕ) → index_of t.maps s.fork ≡ Some k → (l : Looked) → LookStands t places l → (o : Option HeldEntry) → LookIs l o → Rest n
         → IsSameWalk maps (paged.walk_from s l (paged.walk_within n t places)) (walk_from maps (record { map = k; page = s.page }) o (walk_within n maps))
-    from n s k is (Is Empty) stands o held rest = subst (λ (x : Option HeldEntry). IsSameWalk maps (Along (paged.walk_end s full_access None)) (walk_from maps (record { map = k; page = s.page }) x (walk_within n maps))) (sym held)
+    from n s k is (Is Empty) stands o held rest = subst (λ (x : Option HeldEntry). IsSameWalk maps (Along (walk_end s full_access None)) (walk_from maps (record { map = k; page = s.page }) x (walk_within n maps))) (sym held)
         (ended s (record { map = k; page = s.page }) full_access None (slot_is s k is))
-    from n s k is (Is (Page home a)) stands o held rest = subst (λ (x : Option HeldEntry). IsSameWalk maps (Along (paged.walk_end s a (Some home))) (walk_from maps (record { map = k; page = s.page }) x (walk_within n maps))) (sym held)
+    from n s k is (Is (Page home a)) stands o held rest = subst (λ (x : Option HeldEntry). IsSameWalk maps (Along (walk_end s a (Some home))) (walk_from maps (record { map = k; page = s.page }) x (walk_within n maps))) (sym held)
         (ended s (record { map = k; page = s.page }) a (Some home) (slot_is s k is))
     from n s k is (Is (Follows serial page a)) stands o held rest =
         subst (λ (x : Option HeldEntry). IsSameWalk maps (paged.walked_behind s a (paged.walk_within n t places (followed s serial page))) (walk_from maps (record { map = k; page = s.page }) x (walk_within n maps))) (sym held)

@@ -13,15 +13,13 @@ use Rattle.page_contracts.specs.Pages.{can_settle}
 use Rattle.page_contracts.specs.Stores.{HomePlace, StoreMeaning, away_at, here}
 use Rattle.plain_pages.specs.Maps.{full_access}
 use Rattle.plain_pages.specs.References.{in_map, settled}
-use Rattle.pager_walk.specs.declared.chain_walk.Way.{Way}
 use Rattle.pager_walk.specs.declared.chain_walk.Walked.TheVariants.{Along}
 use Rattle.pager_walk.specs.MapPages.{index_of}
-use Rattle.pager_walk.specs.Walks.{WayStands, walk_at}
+use Rattle.pager_walk.specs.Walks.{Way, WayStands, walk_at}
 use Rattle.pager_walk.proofs.Looking.{ArePages}
 use Rattle.flat_tables.specs.declared.held_entry.HeldEntry.TheVariants.{Empty}
-use Rattle.flat_tables.specs.declared.chain_walk.Walk.{Walk}
 use Rattle.flat_tables.specs.HeldMaps as flat
-use Rattle.flat_tables.specs.Walks.{walk}
+use Rattle.flat_tables.specs.Walks.{Walk, walk}
 use Rattle.flat_tables.specs.SlotTables.{Tables as FlatTables, plain_of}
 use Rattle.flat_tables.specs.SlotTouches.{scene_of, touch_walked}
 use Rattle.flat_tables.specs.TableSteps.{home_taken}

@@ -8,11 +8,10 @@ use Rattle.page_homes.specs.declared.homes.Home.{Home}
 use Rattle.page_contracts.specs.declared.answers.Found.{Found}
 use Rattle.page_contracts.specs.declared.answers.SpaceHandle.{SpaceHandle}
 use Rattle.page_contracts.specs.Stores.{HomePlace}
-use Rattle.pager_walk.specs.declared.chain_walk.Way.{Way}
 use Rattle.pager_walk.specs.declared.chain_walk.Walked.{Walked}
 use Rattle.pager_walk.specs.declared.chain_walk.Walked.TheVariants as walked
 use Rattle.pager_walk.specs.MapPages.{fork_at}
-use Rattle.pager_walk.specs.Walks.{walk_at}
+use Rattle.pager_walk.specs.Walks.{Way, walk_at}
 use Rattle.paged_tables.specs.declared.known_page.KnownPage.{KnownPage}
 use Rattle.paged_tables.specs.PagedTables.{Beside}
 

@@ -13,14 +13,14 @@ use Rattle.page_contracts.specs.declared.answers.Touch.{Touch}
 use Rattle.page_contracts.specs.declared.answers.Touch.TheVariants.{Ready, Zero, Copy, Absent, Denied, Full}
 use Rattle.page_contracts.specs.Pages.{Scene, absent_or, framed}
 use Rattle.page_contracts.specs.Stores.{HomePlace, away_at}
-use Rattle.pager_walk.specs.declared.chain_walk.Way.{Way}
 use Rattle.pager_walk.specs.declared.chain_walk.Walked.{Walked}
 use Rattle.pager_walk.specs.declared.chain_walk.Walked.TheVariants as walked
 use Rattle.pager_walk.specs.declared.paged_entry.Looked.{Looked}
 use Rattle.pager_walk.specs.declared.paged_entry.Looked.TheVariants.{Is, Missing, Refused, Absent as MapAbsent}
 use Rattle.pager_walk.specs.declared.paged_entry.PagedEntry.TheVariants.{Empty, Page, Follows}
+use Rattle.fork_maps.specs.ChainWalks.{allows_along, copy_for}
 use Rattle.pager_walk.specs.PagedMaps.{look_at, map_away, name_at}
-use Rattle.pager_walk.specs.Walks.{allows_along, walk_at}
+use Rattle.pager_walk.specs.Walks.{Way, walk_at}
 use Rattle.flat_tables.specs.SlotTables.{share_of}
 use Rattle.flat_tables.specs.SlotTouches.{home_named}
 use Rattle.paged_tables.specs.NameCounts.{count_of, share_at}
@@ -53,12 +53,6 @@ alone_in b Refused = false
 
 abbrev pub alone_at : Beside → List HomePlace → Slot → Bool
 alone_at b places s = alone_in b (look_at b.tables places s)
-
--- where a reference makes a copy, if it makes one
-abbrev pub copy_for : Kind → Way → Option Slot
-copy_for Read w = None
-copy_for Write w = w.copy
-copy_for Execute w = None
 
 -- what a copy wants: no room nor frame, where the old page has no other name
 abbrev pub copy_touched : Beside → Scene → Option ℕ → Bool → Touch

@@ -18,11 +18,11 @@ use Rattle.page_contracts.specs.Stores.{HomePlace, is_taken}
 use Rattle.pager_walk.specs.declared.paged_entry.PagedEntry.TheVariants.{Empty, Page, Follows}
 use Rattle.pager_walk.specs.declared.paged_entry.Looked.{Looked}
 use Rattle.pager_walk.specs.declared.paged_entry.Looked.TheVariants.{Is, Absent as MapAbsent, Missing, Refused}
-use Rattle.pager_walk.specs.declared.chain_walk.Way.{Way}
 use Rattle.pager_walk.specs.declared.chain_walk.Walked.{Walked}
 use Rattle.pager_walk.specs.declared.chain_walk.Walked.TheVariants.{Along, Absent, NoChain}
 use Rattle.pager_walk.specs.PagedMaps.{Tables, name_at, name_of, look_at, is_near, map_away, maps_over, AreRooted, FitsMaps, LookStands, TellsEntry}
-use Rattle.pager_walk.specs.Walks.{walk_end, walk_behind, walked_behind, walk_from, walk_within, walk_at, allows_along, first_absent, IsChain, TellsOf, TellsWalk, IsNearSlot, WalkStands}
+use Rattle.fork_maps.specs.ChainWalks.{walk_end, walk_behind, allows_along}
+use Rattle.pager_walk.specs.Walks.{Way, walked_behind, walk_from, walk_within, walk_at, first_absent, IsChain, TellsOf, TellsWalk, IsNearSlot, WalkStands}
 use Rattle.pager_walk.proofs.Looking.{ArePages, stands_at, looked}
 
 pub walk_none : (most : ℕ) (t : Tables) (places : List HomePlace) (s : Slot) → most ≡ 0 → walk_within most t places s ≡ NoChain

@@ -16,25 +16,15 @@ use Rattle.page_contracts.specs.Stores.{HomePlace}
 use Rattle.pager_walk.specs.declared.paged_entry.PagedEntry.TheVariants.{Empty, Page, Follows}
 use Rattle.pager_walk.specs.declared.paged_entry.Looked.{Looked}
 use Rattle.pager_walk.specs.declared.paged_entry.Looked.TheVariants.{Is, Absent as MapAbsent, Missing, Refused}
-use Rattle.pager_walk.specs.declared.chain_walk.Way.{Way}
+use Rattle.fork_maps.specs.declared.chain_walk.Walk.{Walk}
+use Rattle.fork_maps.specs.ChainWalks.{walk_end, walk_behind, allows_along}
 use Rattle.pager_walk.specs.declared.chain_walk.Walked.{Walked}
 use Rattle.pager_walk.specs.declared.chain_walk.Walked.TheVariants.{Along, Absent, NoChain}
 use Rattle.pager_walk.specs.PagedMaps.{Tables, name_at, name_of, plain_entry, look_at, is_near, map_away, maps_over, IsAwayMap}
 
--- a walk that ends at an entry with this access
-abbrev pub walk_end : Slot → Access → Option Home → Way
-walk_end s a home = record { end = s; home = home; reads = a.r; writes = a.c || a.w; executes = a.x; copy = if a.c then Some s else None }
-
--- a walk from an entry with this access on
-abbrev pub walk_behind : Slot → Access → Way → Way
-walk_behind s a w = record {
-  end = w.end;
-  home = w.home;
-  reads = a.r && w.reads;
-  writes = if a.c then w.reads else a.w && w.writes;
-  executes = a.x && w.executes;
-  copy = if a.c then Some s else w.copy;
-}
+-- a walk whose entries stand in slots
+abbrev pub Way : Type 0
+Way = Walk Slot
 
 -- what a walk from an entry on comes to
 abbrev pub walked_behind : Slot → Access → Walked → Walked
@@ -72,11 +62,6 @@ abbrev pub entries_found : Tables → List HomePlace → Entries
 entries_found t places s = entry_found t.names (look_at t places s)
 
 -- whether a reference is permitted
-abbrev pub allows_along : Kind → Way → Bool
-allows_along Read w = w.reads
-allows_along Write w = w.writes
-allows_along Execute w = w.executes
-
 abbrev pub allows : Kind → Walked → Bool
 allows kind (Along w) = allows_along kind w
 allows kind (Absent home) = false

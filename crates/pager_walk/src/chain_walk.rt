@@ -3,29 +3,16 @@ ghost use Rattle.std.specs.Prelude.{◌≡◌, ◌<◌, map};
 ghost use Rattle.page_contracts.specs.DrumWords.{DrumWords};
 ghost use Rattle.page_contracts.specs.Stores.{is_taken};
 ghost use Rattle.pager_walk.specs.PagedMaps.{AreRooted, FitsMaps, tables_of};
-ghost use Rattle.pager_walk.specs.Walks.{TellsWalk, WalkStands, allows, walk_at, walk_behind, walk_end, walk_within, walked_behind};
+ghost use Rattle.pager_walk.specs.Walks.{TellsWalk, WalkStands, allows, walk_at, walk_within, walked_behind};
 
 use crate::paged_entry::{Looked, MapTables, PagedEntry, entry};
+use fork_maps::{CHAIN, FULL_ACCESS, Walk, ends, goes_on};
 use machine_names::{Access, ForkName, Kind, SPACE_PAGES, Slot};
 use page_contracts::Store;
 use page_homes::Home;
 
-/// How many entries a chain has at most.
-pub const CHAIN: u32 = 4;
-
-/// What a walk along a chain finds.
-#[derive(Clone, Copy, PartialEq, Eq)]
-pub struct Way {
-    /// The slot of the last entry, and the home of the page that it names, if it names one.
-    pub end: Slot,
-    pub home: Option<Home>,
-    /// Whether the chain permits to read, to write and to execute.
-    pub reads: bool,
-    pub writes: bool,
-    pub executes: bool,
-    /// The slot of the first entry that has the copy mark, if one has.
-    pub copy: Option<Slot>,
-}
+/// A walk whose entries stand in slots.
+pub type Way = Walk<Slot>;
 
 /// What a walk comes to.
 #[derive(Clone, Copy, PartialEq, Eq)]
@@ -43,58 +30,10 @@ impl Walked {
         ensures { result ≡ allows kind self }
     {
         match self {
-            Walked::Along(walk) => match kind {
-                Kind::Read => walk.reads,
-                Kind::Write => walk.writes,
-                Kind::Execute => walk.executes,
-            },
+            Walked::Along(walk) => walk.permits(kind),
             Walked::Absent(_) => false,
             Walked::NoChain => false,
         }
-    }
-}
-
-/// Every right, and no copy mark.
-pub const FULL_ACCESS: Access = Access {
-    r: true,
-    w: true,
-    x: true,
-    c: false,
-};
-
-// The walk that ends at an entry.
-fn ends(at: Slot, access: Access, home: Option<Home>) -> Way
-    ensures { result ≡ walk_end at access home }
-{
-    let copy = if access.c { Some(at) } else { None };
-    Way {
-        end: at,
-        home,
-        reads: access.r,
-        writes: access.c || access.w,
-        executes: access.x,
-        copy,
-    }
-}
-
-// The walk from an entry on, whose rest is known.
-fn goes_on(at: Slot, access: Access, rest: Way) -> Way
-    ensures { result ≡ walk_behind at access rest }
-{
-    if access.c {
-        return Way {
-            reads: access.r && rest.reads,
-            writes: rest.reads,
-            executes: access.x && rest.executes,
-            copy: Some(at),
-            ..rest
-        };
-    }
-    Way {
-        reads: access.r && rest.reads,
-        writes: access.w && rest.writes,
-        executes: access.x && rest.executes,
-        ..rest
     }
 }
 

@@ -9,8 +9,8 @@ mod map_changes;
 mod map_pages;
 mod paged_entry;
 
-pub use chain_walk::{CHAIN, FULL_ACCESS, Walked, Way, walk};
-pub use fork_maps::MOST_MAPS;
+pub use chain_walk::{Walked, Way, walk};
+pub use fork_maps::{CHAIN, FULL_ACCESS, MOST_MAPS};
 pub use laws::{
     a_map_is_its_page, refused_words_lead_nowhere, transfers_change_no_map, walks_go_by_the_chain,
 };

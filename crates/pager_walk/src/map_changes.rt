@@ -12,9 +12,8 @@ ghost use Rattle.pager_walk.specs.MapPages.{first_map, fork_at, index_of, root_a
 ghost use Rattle.pager_walk.specs.NewPages.{following_words};
 ghost use Rattle.pager_walk.specs.PagedMaps.{AreRooted, FitsMaps, entry_for, is_near, look_at, maps_over, plain_entry, tables_of, with_name, with_root, without_root};
 
-use crate::chain_walk::FULL_ACCESS;
 use crate::paged_entry::MapTables;
-use fork_maps::MOST_MAPS;
+use fork_maps::{FULL_ACCESS, MOST_MAPS};
 use machine_names::{ForkName, LAST_SERIAL, MOST_FORKS, PageName, SPACE_PAGES, Slot};
 use page_contracts::{Room, Store};
 use page_homes::Home;

@@ -6,7 +6,7 @@ ghost use Rattle.page_contracts.specs.Stores.{IsMade, free_homes, is_here, is_ta
 ghost use Rattle.pager_walk.specs.PagedMaps.{AreRooted, FitsMaps, tables_of, with_name};
 ghost use Rattle.paged_tables.specs.MadePages.{page_like};
 
-use crate::slot_paged::{SlotPaged, copy_for};
+use crate::slot_paged::SlotPaged;
 use machine_names::{Access, FileNo, Kind, PageName, Place, Slot, Tty};
 use page_contracts::{Room, Store, Touch};
 use page_homes::Home;
@@ -149,7 +149,7 @@ impl<S: Store> SlotPaged<S> {
             self.make_named(way.end, None, FULL_ACCESS, owner);
             return;
         };
-        let Some(to) = copy_for(way, kind) else {
+        let Some(to) = way.copy_for(kind) else {
             self.store.used(home);
             return;
         };

@@ -1,7 +1,7 @@
 // Maps that are pages of a store.
 ghost use Rattle.std.specs.Prelude.{◌≡◌};
 ghost use Rattle.paged_tables.specs.PagedTables.{AreKept, beside_of};
-ghost use Rattle.paged_tables.specs.PagedTouches.{copy_for};
+ghost use Rattle.fork_maps.specs.ChainWalks.{copy_for};
 
 use machine_names::{ForkName, Kind, PageName, Place, Slot, Tty};
 use outside::{Drum, Memory};
@@ -24,17 +24,6 @@ pub struct SlotPaged<S: Store> {
     pub(crate) store: S,
     pub(crate) tables: PagedTables,
     ghost kept: { AreKept (beside_of tables) (S.means.homes store) },
-}
-
-// Where a reference makes a copy, if it makes one.
-pub(crate) fn copy_for(way: Way, kind: Kind) -> Option<Slot>
-    ensures { result ≡ copy_for kind way }
-{
-    match kind {
-        Kind::Read => None,
-        Kind::Write => way.copy,
-        Kind::Execute => None,
-    }
 }
 
 impl<S: Store + Drop> SlotPaged<S> {
@@ -172,7 +161,7 @@ impl<S: Store> SlotPaged<S> {
         requires { WayStands (beside_of self.now.tables).tables (S.means.homes self.now.store) way }
         ensures { result ≡ option_map (alone_at (beside_of self.now.tables) (S.means.homes self.now.store)) (copy_for kind way) }
     {
-        match copy_for(way, kind) {
+        match way.copy_for(kind) {
             None => None,
             Some(slot) => Some(self.is_alone(slot)),
         }

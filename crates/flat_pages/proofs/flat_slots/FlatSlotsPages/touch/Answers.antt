@@ -5,7 +5,8 @@ use Rattle.machine_names.specs.declared.names.Place.{Place}
 use Rattle.machine_names.specs.Orders.{file_page}
 use Rattle.page_contracts.specs.Pages.{touch_of, spot_of, is_in_core}
 use Rattle.flat_tables.specs.SlotTables.{plain_of}
-use Rattle.flat_tables.specs.SlotTouches.{scene_of, touch_filed, touch_of_place, touch_walked, touch_made, copy_of}
+use Rattle.fork_maps.specs.ChainWalks.{copy_for}
+use Rattle.flat_tables.specs.SlotTouches.{scene_of, touch_filed, touch_of_place, touch_walked, touch_made}
 use Rattle.flat_pages.proofs.Agreement.{filed_named}
 use Rattle.flat_pages.proofs.FileTouches.{file_told}
 use Rattle.page_contracts.specs.Stores.{away_at}
@@ -35,7 +36,7 @@ returns-then-not-permits-clause-told g c d owner fits own =
     let lives = place_lives (λ f. is_some (index_of s.tables.maps.held.items f)) c.args.at c.in-Fork.slot c.in-Fork.is c.requires in
     sym (at_told t s.agree frames d (sized_of t.places d fits (g.met.S.Store.sound s.store).pages) owner own c.args.at c.in-Fork.slot c.in-Fork.is c.args.kind lives.0
     ∙ ap (touch_walked (away_at t.places) t (scene_of t frames) c.args.kind) (sym c.in-Some.ensures)
-    ∙ ap (λ b. cond b (touch_made (away_at t.places) t (scene_of t frames) w.home (copy_of c.args.kind w)) (Denied c.args.kind)) (sym c.permits.ensures ∙ c.if-not-permits.true))
+    ∙ ap (λ b. cond b (touch_made (away_at t.places) t (scene_of t frames) w.home (copy_for c.args.kind w)) (Denied c.args.kind)) (sym c.permits.ensures ∙ c.if-not-permits.true))
 
 pub made-requires-clause-taken : goal.made-requires-clause-taken
 made-requires-clause-taken g c h is_home =
@@ -60,7 +61,7 @@ returns-clause-told g c d owner fits own =
     let lives = place_lives (λ f. is_some (index_of s.tables.maps.held.items f)) c.args.at c.in-Fork.slot c.in-Fork.is c.requires in
     sym (at_told t s.agree frames d (sized_of t.places d fits (g.met.S.Store.sound s.store).pages) owner own c.args.at c.in-Fork.slot c.in-Fork.is c.args.kind lives.0
     ∙ ap (touch_walked (away_at t.places) t (scene_of t frames) c.args.kind) (sym c.in-Some.ensures)
-    ∙ ap (λ b. cond b (touch_made (away_at t.places) t (scene_of t frames) w.home (copy_of c.args.kind w)) (Denied c.args.kind)) (sym c.permits.ensures ∙ c.if-not-permits.false)
+    ∙ ap (λ b. cond b (touch_made (away_at t.places) t (scene_of t frames) w.home (copy_for c.args.kind w)) (Denied c.args.kind)) (sym c.permits.ensures ∙ c.if-not-permits.false)
     ∙ ap (touch_made (away_at t.places) t (scene_of t frames) w.home) (sym c.copy_for.ensures) ∙ sym c.made.ensures)
 
 pub returns-clause-needs : goal.returns-clause-needs

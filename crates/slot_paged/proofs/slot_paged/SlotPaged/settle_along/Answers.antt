@@ -8,7 +8,8 @@ use Rattle.paged_tables.specs.LeftShares.{left_of}
 use Rattle.paged_tables.specs.MadePages.{MakesPage}
 use Rattle.paged_tables.specs.PageHomes.{homed, homed_along}
 use Rattle.paged_tables.specs.PagedTables.{beside_of}
-use Rattle.paged_tables.specs.PagedTouches.{alone_at, copy_for, walk_touched}
+use Rattle.fork_maps.specs.ChainWalks.{copy_for}
+use Rattle.paged_tables.specs.PagedTouches.{alone_at, walk_touched}
 use Rattle.paged_tables.proofs.MapsSet.{ready_map}
 use Rattle.paged_tables.proofs.PlacesDone.{alone_done, copy_done, ready_told, used_done, zero_done}
 use Rattle.paged_tables.proofs.SettledTouches.{alone_one, copied_here, is_ready, only_write, used_here}
