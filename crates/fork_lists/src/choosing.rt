@@ -106,6 +106,19 @@ impl ForkLists {
     {
         self.sched.ran_row(count)
     }
+    /// All units of a row of the head but the last are over. Who starts then stands before the head, where the last ends its quantum.
+    pub fn count_but_last(&mut self, count: u32)
+        requires row { IsRow count self.old.sched }
+        requires some { 1 ≤ count }
+        ensures ran { self.new.sched ≡ row_ran (count - 1) self.old.sched }
+        ensures waits { self.new.sched.waiting ≡ self.old.sched.waiting }
+        ensures seen { self.new.seen ≡ self.old.seen }
+        ensures tied { (forks : ForkMap) → AreTied forks self.old → AreTied forks self.new }
+    {
+        self.sched.sound();
+        self.ran_row(count - 1);
+    }
+
     /// One more unit of a fork is over, where it still is the head.
     pub fn count_last(&mut self, name: ForkName)
         ensures schedule { self.new.sched ≡ last_counted name self.old.sched }

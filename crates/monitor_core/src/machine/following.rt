@@ -33,7 +33,7 @@ pub fn end_row(lists: &mut ForkLists, tree: &Tree, who: Runner, reach: Reach, co
     ensures closer { (f : AForkName) → IsRunnable tree.now.forks f → f ≢ who.fork → is_in_line f lists.old.sched ≡ true → Nears f (row_ran (count - 1) lists.old.sched) lists.new.sched 1 }
 {
     lists.sound();
-    lists.ran_row(count - 1);
+    lists.count_but_last(count);
     tree.are_trees();
     match reach {
         Reach::Own => lists.follow_slot(tree, who.fork, who.slot),

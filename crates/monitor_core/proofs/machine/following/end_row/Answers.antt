@@ -19,7 +19,7 @@ use Rattle.monitor_core.proofs.machine.following.end_row.Goals.{in-Own, in-Made,
 pub follow-requires-clause-can : goal.follow-requires-clause-can
 follow-requires-clause-can c =
     let e = c.requires.ended in
-    can_follow e.old.forks e.trees.slotted c.ran_row.new.self (c.ran_row.ensures.tied e.old.forks e.tied) c.args.who.fork.tty c.args.tree.now.forks c.are_trees.ensures.slotted
+    can_follow e.old.forks e.trees.slotted c.count_but_last.new.self (c.count_but_last.ensures.tied e.old.forks e.tied) c.args.who.fork.tty c.args.tree.now.forks c.are_trees.ensures.slotted
     (subst (λ (r : Reach). Reaches r c.args.who.fork e.old c.args.tree.now) c.in-Job.is e.reaches)
 
 -- one may have been made beside the fork that ran
@@ -30,7 +30,7 @@ follow_maker-requires c =
       can = record {
         old = e.old;
         trees = e.trees;
-        tied = c.ran_row.ensures.tied e.old.forks e.tied;
+        tied = c.count_but_last.ensures.tied e.old.forks e.tied;
         fork = e.runner.fork;
         there = e.runner.there;
         named = e.runner.named;
@@ -43,24 +43,24 @@ pub returns-clause-tied : goal.returns-clause-tied
 returns-clause-tied c =
     let e = c.requires.ended in
     let forks = c.args.tree.now.forks in
-    let before = c.ran_row.ensures.tied e.old.forks e.tied in
+    let before = c.count_but_last.ensures.tied e.old.forks e.tied in
     let new = c.are_trees.ensures.slotted in
     c.count_last.ensures.tied forks (elim c.match-reach.branch [
       | in-Own w ↦
           let own = subst (λ (r : Reach). Reaches r c.args.who.fork e.old c.args.tree.now) w.in-Own.is e.reaches in
           let follows = w.follow_slot.ensures in
           subst (AreTied forks) (sym w.lists-is) (tied_own e.old c.args.tree.now e.trees c.are_trees.ensures c.args.who.fork c.args.who.slot e.runner.fork e.runner.there e.runner.named own.body own.left
-          c.ran_row.new.self w.follow_slot.new.self before e.runner.runs follows.schedule follows.mine follows.others)
+          c.count_but_last.new.self w.follow_slot.new.self before e.runner.runs follows.schedule follows.mine follows.others)
       | in-Made w ↦ subst (AreTied forks) (sym w.lists-is) w.follow_maker.ensures.tied
       | in-Job w ↦
           let others = subst (λ (r : Reach). Reaches r c.args.who.fork e.old c.args.tree.now) w.in-Job.is e.reaches in
-          subst (AreTied forks) (sym w.lists-is) (tied_followed e.old.forks e.trees.slotted c.ran_row.new.self before c.args.who.fork.tty forks new others w.follow.new.self w.follow.ensures.follows)
+          subst (AreTied forks) (sym w.lists-is) (tied_followed e.old.forks e.trees.slotted c.count_but_last.new.self before c.args.who.fork.tty forks new others w.follow.new.self w.follow.ensures.follows)
     ])
 
 pub returns-clause-waits : goal.returns-clause-waits
 returns-clause-waits c =
-    let less = λ (l : ForkLists). WaitsLess c.ran_row.new.self.sched.waiting l.sched.waiting in
-    subst (WaitsLess c.args.lists.now.sched.waiting) (sym c.count_last.ensures.waits) (subst (λ ws. WaitsLess ws c.match-reach.lists.sched.waiting) c.ran_row.ensures.waits (elim c.match-reach.branch [
+    let less = λ (l : ForkLists). WaitsLess c.count_but_last.new.self.sched.waiting l.sched.waiting in
+    subst (WaitsLess c.args.lists.now.sched.waiting) (sym c.count_last.ensures.waits) (subst (λ ws. WaitsLess ws c.match-reach.lists.sched.waiting) c.count_but_last.ensures.waits (elim c.match-reach.branch [
       | in-Own w ↦ subst less (sym w.lists-is) w.follow_slot.ensures.waits
       | in-Made w ↦ subst less (sym w.lists-is) w.follow_maker.ensures.waits
       | in-Job w ↦ subst less (sym w.lists-is) w.follow.ensures.follows.waits
@@ -73,12 +73,12 @@ returns-clause-schedule c =
     let seen = c.args.lists.now.seen.items in
     let row = row_ran (c.args.count - 1) c.args.lists.now.sched in
     let same : c.match-reach.lists.sched ≡ reach_followed c.args.reach now who seen row = elim c.match-reach.branch [
-      | in-Own w ↦ ap (λ (l : ForkLists). l.sched) w.lists-is ∙ w.follow_slot.ensures.schedule ∙ ap (reach_followed Own now who seen) c.ran_row.ensures.ran ∙ ap (λ r. reach_followed r now who seen row) (sym w.in-Own.is)
-      | in-Made w ↦ ap (λ (l : ForkLists). l.sched) w.lists-is ∙ w.follow_maker.ensures.schedule ∙ ap (reach_followed Made now who seen) c.ran_row.ensures.ran ∙ ap (λ r. reach_followed r now who seen row) (sym w.in-Made.is)
+      | in-Own w ↦ ap (λ (l : ForkLists). l.sched) w.lists-is ∙ w.follow_slot.ensures.schedule ∙ ap (reach_followed Own now who seen) c.count_but_last.ensures.ran ∙ ap (λ r. reach_followed r now who seen row) (sym w.in-Own.is)
+      | in-Made w ↦ ap (λ (l : ForkLists). l.sched) w.lists-is ∙ w.follow_maker.ensures.schedule ∙ ap (reach_followed Made now who seen) c.count_but_last.ensures.ran ∙ ap (λ r. reach_followed r now who seen row) (sym w.in-Made.is)
       | in-Job w ↦
           ap (λ (l : ForkLists). l.sched) w.lists-is ∙ w.follow.ensures.schedule
-          ∙ ap (λ (v : Vec Seen Global). followed now.forks v.items who.tty c.ran_row.new.self.sched) c.ran_row.ensures.seen
-          ∙ ap (reach_followed Job now who seen) c.ran_row.ensures.ran ∙ ap (λ r. reach_followed r now who seen row) (sym w.in-Job.is)
+          ∙ ap (λ (v : Vec Seen Global). followed now.forks v.items who.tty c.count_but_last.new.self.sched) c.count_but_last.ensures.seen
+          ∙ ap (reach_followed Job now who seen) c.count_but_last.ensures.ran ∙ ap (λ r. reach_followed r now who seen row) (sym w.in-Job.is)
     ] in
     c.count_last.ensures.schedule ∙ ap (last_counted who) same
 
@@ -88,8 +88,8 @@ returns-clause-closer c f runs apart here =
     let old = c.args.lists.now.sched in
     let n = c.args.count in
     let m = row_ran (n - 1) old in
-    let behind : (u : Schedule) → (is_in_line f c.ran_row.new.self.sched ≡ true → ComesOn f c.ran_row.new.self.sched u) → ComesOn f m u =
-    λ u on. comes_behind f who old n c.ran_row.new.self.sched u c.sound.ensures.timed c.requires.head.head c.requires.row c.requires.some c.ran_row.ensures.ran apart here on in
+    let behind : (u : Schedule) → (is_in_line f c.count_but_last.new.self.sched ≡ true → ComesOn f c.count_but_last.new.self.sched u) → ComesOn f m u =
+    λ u on. comes_behind f who old n c.count_but_last.new.self.sched u c.sound.ensures.timed c.requires.head.head c.requires.row c.requires.some c.count_but_last.ensures.ran apart here on in
     let was : heads who m.ready ≡ true = head_at old who n c.sound.ensures.timed c.requires.head.head c.requires.row (n - 1) (omega (arith, c.requires.some)) in
     let on : ComesOn f m c.match-reach.lists.sched = elim c.match-reach.branch [
       | in-Own w ↦ subst (λ (l : ForkLists). ComesOn f m l.sched) (sym w.lists-is) (behind w.follow_slot.new.self.sched (w.follow_slot.ensures.comes_on f runs))
