@@ -50,7 +50,7 @@ module _ (tables : FileTables) (name : List ℕ) where
     over e = record { end = e; pages = p }
 
     abbrev first : Option ℕ → Came nat_cmp FileChange
-    first o = came (option_map_or (λ n. looks name (found_or_made a n name)) o (ends (Failed JFNS_FULL)))
+    first o = came (looks name (λ there. option_map_or (λ n. found_or_made a n name there) o (ends (Failed JFNS_FULL))))
 
     abbrev behind_look : ℕ → Bool → Came nat_cmp FileChange
     behind_look n b = came (found_or_made a n name b)

@@ -70,7 +70,7 @@ fn telling(regs: &Regs, n: u32, change: FileChange) -> End<FileChange>
     skipping(change, with_ac(*regs, 1, Word::wrapped(u64::from(n))))
 }
 
-// The least JFN that is free is to stand for the file of a name.
+// The file of a name is looked up, and the least JFN that is free is to stand for it.
 fn taking(regs: &Regs, who: ForkName, name: FileName, tables: &FileTables) -> End<FileChange>
     requires regs { IsRegs regs.now }
     requires terminal { IsTerminal who.tty }
@@ -79,10 +79,11 @@ fn taking(regs: &Regs, who: ForkName, name: FileName, tables: &FileTables) -> En
         ≡ record { end = result; pages = p } }
     ensures fits { FitsEnd (IsSound tables.now who.tty) result }
 {
+    let there = tables.find(&name).is_some();
     let Some(n) = tables.free_jfn(who.tty) else {
         return End::Failed(JFNS_FULL);
     };
-    if tables.find(&name).is_some() {
+    if there {
         return telling(regs, n, FileChange::Take(who.tty, n, name));
     }
     if !makes_files(regs) {

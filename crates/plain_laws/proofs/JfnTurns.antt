@@ -63,14 +63,18 @@ module _ (s : PlainState) (f : Fork) (lives : Lives s f) where
     named_so : turn_on sight s.pages (gtjfn asked) ≡ turn_on sight q (taking asked name)
     named_so = gtjfn_reads (Some asks.text) q asks.reads ∙ ap (λ o. turn_on sight q (option_map_or (taking asked) o (ends (Failed BAD_NAME)))) asks.named
 
+    -- the least that is free, if one is
+    abbrev with_free : Option ℕ → Came name_cmp FileChange
+    with_free o = turn_on sight q (looks name (λ there. option_map_or (λ n. found_or_made asked n name there) o (ends (Failed JFNS_FULL))))
+
     pub none_free_so : free_jfn (jfns_of s f) ≡ None → turn_of s f GTJFN ≡ left_by (record { end = Failed JFNS_FULL; pages = q })
     unfolding turn_on
-    none_free_so none = ap left_by (named_so ∙ ap (λ o. turn_on sight q (option_map_or (λ n. looks name (found_or_made asked n name)) o (ends (Failed JFNS_FULL)))) none)
+    none_free_so none = ap left_by (named_so ∙ ap with_free none)
 
     module _ (n : ℕ) (free : free_jfn (jfns_of s f) ≡ Some n) where
       look_so : turn_on sight s.pages (gtjfn asked) ≡ turn_on sight q (found_or_made asked n name (is_some (map.get s.files name)))
       unfolding turn_on
-      look_so = named_so ∙ ap (λ o. turn_on sight q (option_map_or (λ n. looks name (found_or_made asked n name)) o (ends (Failed JFNS_FULL)))) free
+      look_so = named_so ∙ ap with_free free
 
       pub there_so : map.contains_key s.files name ≡ true → turn_of s f GTJFN ≡ left_by (record { end = telling asked n (Take f.name.tty n name); pages = q })
       unfolding turn_on

@@ -116,13 +116,13 @@ module _ {K : Type 0} {file_cmp : K → K → Ordering} (a : JfnAsked) (sight : 
       unfolding turn_on
       made_ends absent = cond_both sight.has_more _ _ (λ e. FitsEnd a sight After e q) (λ room. ((taken, absent, room), after)) (λ full. tt)
 
-      found_ends : Ends q (looks name (found_or_made a n name))
-      unfolding turn_on
-      found_ends = cond_both (sight.is_name name) _ _ (Ends q) (λ there. over q (telling a n (Take a.who.tty n name)) ((taken, there), after)) (λ absent.
-          cond_both (bit (in_ac a.regs 1) 0 == 1) _ _ (Ends q) (λ new. made_ends absent) (λ old. fails NO_FILE))
+      found_ends : (there : Bool) → sight.is_name name ≡ there → Ends q (found_or_made a n name there)
+      found_ends true there = over q (telling a n (Take a.who.tty n name)) ((taken, there), after)
+      found_ends false absent = cond_both (bit (in_ac a.regs 1) 0 == 1) _ _ (Ends q) (λ new. made_ends absent) (λ old. fails NO_FILE)
 
     taking_ends : (text name : List ℕ) → file_named a.user [] text ≡ Some name → Ends q (taking a name)
-    taking_ends text name named = looked_up (Ends q) _ _ (free_jfn a.held) (λ n free. found_ends n free text name named) (λ none. fails JFNS_FULL)
+    unfolding turn_on
+    taking_ends text name named = looked_up (Ends q) _ _ (free_jfn a.held) (λ n free. found_ends n free text name named (sight.is_name name) refl) (λ none. fails JFNS_FULL)
 
     text_ends : (text : Option (List ℕ)) → Ends q (option_map_or (taking a) (option_and_then (file_named a.user []) text) (ends (Failed BAD_NAME)))
     text_ends None = fails BAD_NAME

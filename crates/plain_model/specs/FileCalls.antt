@@ -70,9 +70,9 @@ found_or_made a n name there =
     if there then ends (telling a n (Take a.who.tty n name))
     else (if bit (in_ac a.regs 1) 0 == 1 then makes name (λ room. ends (made_for a n name room)) else ends (Failed NO_FILE))
 
--- the least JFN that is free is to stand for a file
+-- a file is looked up, and the least JFN that is free is to stand for it
 abbrev pub taking : JfnAsked → List ℕ → Turn ⊥ FileChange
-taking a name = option_map_or (λ n. looks name (found_or_made a n name)) (free_jfn a.held) (ends (Failed JFNS_FULL))
+taking a name = looks name (λ there. option_map_or (λ n. found_or_made a n name there) (free_jfn a.held) (ends (Failed JFNS_FULL)))
 
 -- GTJFN: a JFN is taken for the file that the text at the pointer in accumulator 2 names
 abbrev pub gtjfn : JfnAsked → Turn ⊥ FileChange
