@@ -5,4 +5,4 @@
 
 mod laws;
 
-pub use laws::terminals_see_their_own_work_alone;
+pub use laws::{legal_entries_can_be_run, terminals_see_their_own_work_alone};

@@ -6,6 +6,7 @@ mod Generating
 mod Fairness
 mod Running
 mod Closing
+mod Isolation
 mod Causes
 mod Drums
 mod Statuses

@@ -4,5 +4,6 @@ pub mod Verdicts
 pub mod Driving
 pub mod Observed
 pub mod Headline
+pub mod Isolation
 pub mod Statuses
 pub mod Memory

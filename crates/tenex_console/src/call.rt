@@ -10,6 +10,7 @@ ghost use Rattle.texts.specs.Writer.{FailsAtEnd, Finishes, HandsOn, IsHandedOn, 
 ghost use Rattle.tenex_console.specs.Command.{Generates, IsRight, IsUsage, ReadsScript};
 ghost use Rattle.tenex_console.specs.Driving.{IsBooted};
 ghost use Rattle.tenex_console.specs.Headline.{HasHeadline, Stops};
+ghost use Rattle.tenex_console.specs.Isolation.{HasIsolation};
 ghost use Rattle.tenex_console.specs.Observed.{AreSteady, HandedOn, IsCaused, NoneFell, faults, seen};
 ghost use Rattle.tenex_console.specs.Statuses.{IsEarly, IsFaultless, IsUsageOrBefore, Judges, RanWith, Tells};
 
@@ -43,6 +44,9 @@ pub fn tenex<S: Source, T: Sink, R: Sink, D: Drum>(
     // The transcript is that of the plain machine over the entries that the record has, and the events are those
     // that are asked for.
     ensures headline { result ≡ Status.Done → HasHeadline words.now (seen S.left T.taken R.taken D.read_count D.write_count script.old script.new out.old out.new rec.old rec.new drum.old drum.new) }
+
+    // And a terminal that is apart in that run sees its own work alone.
+    ensures alone { result ≡ Status.Done → HasIsolation words.now (seen S.left T.taken R.taken D.read_count D.write_count script.old script.new out.old out.new rec.old rec.new drum.old drum.new) }
 
     // On each status: what was read of the script, and what both sinks took.
     ensures tells { Tells words.now (D.size drum.old) (seen S.left T.taken R.taken D.read_count D.write_count script.old script.new out.old out.new rec.old rec.new drum.old drum.new) result }

@@ -3,6 +3,7 @@ use Rattle.texts.specs.declared.last.Status.TheVariants.{Done, Script, DrumFault
 use Rattle.tenex_console.specs.Command.{IsAsked}
 use Rattle.tenex_console.specs.Headline.{IsTrueOf}
 use Rattle.tenex_console.specs.Statuses.{IsEarly, IsUsageOrBefore, Judges, Ran}
+use Rattle.tenex_console.proofs.Isolation.{isolated}
 use Rattle.tenex_console.proofs.Asking.{asks_generated, asks_script, not_usage}
 use Rattle.tenex_console.proofs.Statuses.{complete_run, faultless, late, never_judged, never_passed, never_short, ran_asked, stopped, tells_ran, tells_stopped, usage_true}
 use Rattle.tenex_console.proofs.call.tenex.Goals as goal
@@ -11,6 +12,9 @@ pub returns-in-Ok-clause-headline : goal.returns-in-Ok-clause-headline
 returns-in-Ok-clause-headline g c is =
     let asked = c.in-Ok.ensures.booted in
     (asked.0, asked.1.asks, subst (Ran asked.0 _) is (ran_asked _ asked.0 _ c.run.result asked.2 (c.run.ensures.ran asked.0.sizes (sym asked.3.room_is))))
+
+pub returns-in-Ok-clause-alone : goal.returns-in-Ok-clause-alone
+returns-in-Ok-clause-alone g c is = isolated c.args.words.now _ (returns-in-Ok-clause-headline g c is)
 
 pub returns-in-Ok-clause-tells : goal.returns-in-Ok-clause-tells
 returns-in-Ok-clause-tells g c =
@@ -64,6 +68,9 @@ returns-in-Ok-clause-unfaulted g c = c.run.ensures.caused.unfaulted
 
 pub returns-in-Err-clause-headline : goal.returns-in-Err-clause-headline
 returns-in-Err-clause-headline g c is = absurd (stopped (λ s. s ≡ Done → ⊥) c.in-Err.why c.stop.result c.stop.ensures.stops (λ e. absurd (cc e)) (λ e. absurd (cc e)) (λ e. absurd (cc e)) is)
+
+pub returns-in-Err-clause-alone : goal.returns-in-Err-clause-alone
+returns-in-Err-clause-alone g c is = isolated c.args.words.now _ (returns-in-Err-clause-headline g c is)
 
 pub returns-in-Err-clause-tells : goal.returns-in-Err-clause-tells
 returns-in-Err-clause-tells g c =
