@@ -2,7 +2,7 @@
 use Rattle.std.specs.Prelude.{List, String, true}
 use Rattle.plain_model.specs.State.{opening}
 use Rattle.plain_alone.proofs.LegalRuns.{legal_can_run}
-use Rattle.plain_alone.proofs.WholeStates.{all_see_their_own}
+use Rattle.plain_alone.proofs.Isolated.{all_see_their_own}
 use Rattle.tenex_console.specs.Headline.{HasHeadline}
 use Rattle.tenex_console.specs.Isolation.{HasIsolation}
 use Rattle.tenex_console.specs.Observed.{Observed}
