@@ -1,12 +1,1 @@
-pub mod Tests
-pub mod Counts
-pub mod Lengths
-pub mod Named
-pub mod Ending
-pub mod Plans
-pub mod NextByte
 pub mod PutByte
-pub mod Settled
-pub mod Files
-pub mod JobParts
-pub mod Parts

@@ -30,10 +30,10 @@ use Rattle.call_turns.specs.Numbers.{by_number}
 use Rattle.call_turns.specs.Telling.{looks_need, touch_need}
 use Rattle.call_turns.specs.Turns.{filling}
 use Rattle.file_tables.specs.declared.tables.FileTables.{FileTables}
-use Rattle.pmap_calls.specs.Asking.{key_of, seen_in}
-use Rattle.byte_io.specs.Planning.{made_for}
-use Rattle.byte_io.specs.Turning.{ByteNeeds}
-use Rattle.byte_io.proofs.NextByte.{first_needs}
+use Rattle.file_tables.specs.Keys.{key_of, seen_in}
+use Rattle.file_bytes.specs.Planning.{made_for}
+use Rattle.file_bytes.specs.Turning.{ByteNeeds}
+use Rattle.file_bytes.proofs.NextByte.{first_needs}
 
 module _ (tables : FileTables) (scene : Scene) (p : NumberedPages) (a : ByteAsked) (j : OpenFile) where
   abbrev done : End ByteChange

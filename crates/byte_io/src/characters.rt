@@ -4,8 +4,8 @@ ghost use Rattle.machine_names.specs.declared.names.TheConstants.{ACCUMULATORS};
 ghost use Rattle.file_tables.specs.declared.tables.FileTables.{FileTables as AFileTables};
 ghost use Rattle.plain_model.specs.ByteCalls.{next_character as next_character_of};
 ghost use Rattle.call_turns.specs.Turns.{FitsEnd, IsRegs};
-ghost use Rattle.byte_io.specs.Asking.{asked};
-ghost use Rattle.byte_io.specs.Planning.{CanTurn};
+ghost use Rattle.file_bytes.specs.Asking.{asked};
+ghost use Rattle.file_bytes.specs.Planning.{CanTurn};
 
 use call_turns::{returning, with_ac};
 use machine_names::ForkName;

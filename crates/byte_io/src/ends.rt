@@ -10,15 +10,6 @@ use plain_model::call::{ByteChange, End};
 use plain_units::Regs;
 use word36::Word;
 
-/// The word in an accumulator, 0 to 15.
-pub fn accumulator(regs: &Regs, ac: usize) -> Word
-    requires regs { IsRegs regs.now }
-    requires ac { ac < ACCUMULATORS }
-    ensures { result ≡ in_ac regs.now ac }
-{
-    regs.ac[ac]
-}
-
 /// A call that is done, and returns by its second return with these registers.
 pub fn skipping(change: ByteChange, regs: Regs) -> End<ByteChange>
     requires { IsRegs regs }

@@ -8,13 +8,12 @@ ghost use Rattle.plain_files.specs.NamedFiles.{open_file};
 ghost use Rattle.plain_model.specs.Calls.{ends};
 ghost use Rattle.plain_model.specs.ByteCalls.{position_in as position_in_of, rfptr as rfptr_of, sfptr as sfptr_of, sizef as sizef_of};
 ghost use Rattle.call_turns.specs.Turns.{FitsEnd, IsRegs};
-ghost use Rattle.byte_io.specs.Asking.{IsUsable, asked, asked_on};
-ghost use Rattle.byte_io.specs.Planning.{CanTurn};
+ghost use Rattle.file_bytes.specs.Asking.{IsUsable, asked, asked_on};
+ghost use Rattle.file_bytes.specs.Planning.{CanTurn};
 
-use crate::ends::{accumulator, skipping};
-use crate::naming::{Way, jfn_held, jfn_number, jfn_open};
-use crate::sizes::{count_of, end_of, length_of};
-use call_turns::with_ac;
+use crate::ends::skipping;
+use call_turns::{accumulator, with_ac};
+use file_bytes::{Way, count_of, end_of, jfn_held, jfn_number, jfn_open, length_of};
 use file_tables::FileTables;
 use machine_names::ForkName;
 use page_contracts::Pages;

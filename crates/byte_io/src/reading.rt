@@ -9,13 +9,12 @@ ghost use Rattle.page_contracts.specs.Stores.{IsNeeded};
 ghost use Rattle.plain_units.specs.Deeds.{in_ac};
 ghost use Rattle.plain_model.specs.ByteCalls.{at_end as at_end_of, bin as bin_of, next_byte as next_byte_of};
 ghost use Rattle.call_turns.specs.Turns.{FitsEnd, IsRegs};
-ghost use Rattle.byte_io.specs.Asking.{IsOpenAs, asked, asked_on};
-ghost use Rattle.byte_io.specs.Planning.{CanTurn, Plans};
+ghost use Rattle.file_bytes.specs.Asking.{IsOpenAs, asked, asked_on};
+ghost use Rattle.file_bytes.specs.Planning.{CanTurn, Plans};
 
 use crate::characters::next_character;
-use crate::naming::{Way, jfn_number, jfn_open};
-use crate::sizes::end_of;
 use call_turns::{behind, returning, with_ac, word_of};
+use file_bytes::{Way, end_of, jfn_number, jfn_open};
 use file_tables::FileTables;
 use ka10_bytes::load;
 use machine_names::ForkName;

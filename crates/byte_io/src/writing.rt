@@ -9,12 +9,11 @@ ghost use Rattle.page_contracts.specs.Stores.{IsNeeded};
 ghost use Rattle.plain_units.specs.Deeds.{in_ac};
 ghost use Rattle.plain_model.specs.ByteCalls.{bout as bout_of, prints_byte as prints_byte_of, put_byte as put_byte_of};
 ghost use Rattle.call_turns.specs.Turns.{FitsEnd, IsRegs};
-ghost use Rattle.byte_io.specs.Asking.{IsOpenAs, asked, asked_on};
-ghost use Rattle.byte_io.specs.Planning.{CanChange, CanTurn, Plans};
+ghost use Rattle.file_bytes.specs.Asking.{IsOpenAs, asked, asked_on};
+ghost use Rattle.file_bytes.specs.Planning.{CanChange, CanTurn, Plans};
 
-use crate::ends::accumulator;
-use crate::naming::{Way, jfn_number, jfn_open};
-use call_turns::{WhenFull, behind, fill, returning};
+use call_turns::{WhenFull, accumulator, behind, fill, returning};
+use file_bytes::{Way, jfn_number, jfn_open};
 use file_tables::FileTables;
 use machine_names::ForkName;
 use page_contracts::{Need, Pages};

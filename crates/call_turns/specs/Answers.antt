@@ -6,6 +6,8 @@ use Rattle.call_turns.specs.declared.answer.Answer.{Answer}
 use Rattle.call_turns.specs.declared.answer.Answer.TheVariants.{After, Wait, Halt, Refused, Failed, Trap, Need as Needs}
 use Rattle.page_contracts.specs.declared.answers.Need.{Need}
 use Rattle.page_contracts.specs.Stores.{StoreMeaning, IsNeeded}
+use Rattle.ka10_unit.specs.declared.taken.Stop.{Stop}
+use Rattle.ka10_unit.specs.declared.taken.Stop.TheVariants as stop
 use Rattle.plain_model.specs.Calls.{parts_behind}
 use Rattle.call_turns.specs.Turns.{IsOut, IsPost, IsRegs}
 
@@ -53,3 +55,13 @@ FitsAnswer (Refused code) = Unit {0}
 FitsAnswer (Failed code) = Unit {0}
 FitsAnswer (Trap channel) = channel < 36
 FitsAnswer (Needs need) = Unit {0}
+
+-- an answer with registers and a character within their limits
+abbrev pub HasRegs : Answer → Type 0
+HasRegs (After regs out post) = IsRegs regs × IsOut out
+HasRegs other = Unit {0}
+
+-- how an answer says that a call stops before its end
+abbrev pub stopped_by : Stop → Answer
+stopped_by (stop.Trap channel) = Trap channel
+stopped_by (stop.Need n) = Needs n

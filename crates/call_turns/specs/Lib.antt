@@ -4,3 +4,4 @@ pub mod Granting
 pub mod Needing
 pub mod Numbers
 pub mod Answers
+pub mod Making

@@ -45,6 +45,14 @@ abbrev pub OneTouchNeeds : Scene → NumberedPages → Tty → Spot ℕ → Kind
 OneTouchNeeds scene p owner at kind later n =
     FirstNeeds (touch_need scene p at kind owner) (ReferredLater scene p (frames_taken (touch_of p scene at kind owner)) (reference p at kind owner) later) n
 
+-- a call that takes no step of its fork needs nothing for one
+abbrev pub NoSteps : Scene → NumberedPages → ForkName → Regs → Steps → (Scene → NumberedPages → Ending → Type 0) → Need → Type 0
+NoSteps scene p f regs steps later n = ⊥
+
+-- nor one that refers to no page for a reference
+abbrev pub NoTouches : Scene → NumberedPages → Tty → Spot ℕ → Kind → (Scene → NumberedPages → Touched → Type 0) → Need → Type 0
+NoTouches scene p owner at kind later n = ⊥
+
 -- Looks need the maps on their ways. What references need, and what an end needs for its change, says who makes those; what comes later they
 -- are handed.
 module _ {F C : Type 0} (sight : Sight F ℕ)

@@ -1,11 +1,16 @@
 -- A turn that knows files by keys of its own, as one that knows them by number.
-use Rattle.std.specs.Prelude.{ℕ, Some}
+use Rattle.std.specs.Prelude.{ℕ, Some, Result, Ok, Err}
 use Rattle.plain_pages.specs.References.{Spot, in_map, in_file}
 use Rattle.plain_model.specs.Calls.{Turn, sees, finds, reads, touches, takes, adds, looks, makes, ends, Sight}
 
 -- what is told of files that are known by their numbers
 abbrev pub by_number : {F : Type 0} → Sight F ℕ → Sight ℕ ℕ
 by_number sight = record { file_of = λ f. Some f; is_name = sight.is_name; has_more = sight.has_more }
+
+-- what was named by the number of a file, as the plain call has it; or the code of an error
+abbrev pub named_by : {A B : Type 0} → (A → B) → Result A ℕ → Result B ℕ
+named_by by (Ok a) = Ok (by a)
+named_by by (Err code) = Err code
 
 -- a spot, with the number of its file
 abbrev pub numbered_spot : {F : Type 0} → (F → ℕ) → Spot F → Spot ℕ

@@ -1,14 +1,26 @@
-// How a turn ends.
+// How a turn ends, and the registers with which it does.
 ghost use Rattle.std.specs.Prelude.{◌≡◌, ◌<◌, ◌^◌, length};
 ghost use Rattle.machine_names.specs.declared.names.TheConstants.{ACCUMULATORS};
+ghost use Rattle.plain_units.specs.Deeds.{in_ac};
 ghost use Rattle.plain_model.specs.Calls.{behind_call, returning as returning_of, with_ac as with_ac_of};
-ghost use Rattle.call_turns.specs.Answers.{answer_of as answer_to};
+ghost use Rattle.ka10_unit.specs.Taking.{IsTrap};
+ghost use Rattle.call_turns.specs.Answers.{HasRegs, IsDone, answer_of as answer_to, stopped_by};
 ghost use Rattle.call_turns.specs.Turns.{IsRegs};
 
 use crate::Answer;
+use ka10_unit::Stop;
 use plain_model::call::End;
 use plain_units::Regs;
 use word36::Word;
+
+/// The word in an accumulator, 0 to 15.
+pub fn accumulator(regs: &Regs, ac: usize) -> Word
+    requires regs { IsRegs regs.now }
+    requires ac { ac < ACCUMULATORS }
+    ensures { result ≡ in_ac regs.now ac }
+{
+    regs.ac[ac]
+}
 
 /// The registers with a word in an accumulator, 0 to 15.
 pub fn with_ac(mut regs: Regs, ac: usize, word: Word) -> Regs
@@ -60,5 +72,17 @@ pub fn answer_of<C: Copy>(end: End<C>) -> Answer
         End::Refused(code) => Answer::Refused(code),
         End::Failed(code) => Answer::Failed(code),
         End::Trap(channel) => Answer::Trap(channel),
+    }
+}
+
+/// The answer of a call that stops before its end.
+pub fn stopped(stop: Stop) -> Answer
+    ensures answer { result ≡ stopped_by stop }
+    ensures core { IsTrap stop → IsDone result }
+    ensures regs { HasRegs result }
+{
+    match stop {
+        Stop::Trap(channel) => Answer::Trap(channel),
+        Stop::Need(need) => Answer::Need(need),
     }
 }

@@ -8,7 +8,7 @@ use Rattle.plain_model.specs.Forks.{OthersStay}
 use Rattle.plain_model.specs.Trees.{PlainTree, with_changed_of}
 use Rattle.plain_model.proofs.ForkMaps.{AreOwn, held_there}
 use Rattle.plain_model.proofs.OtherJobs.{named_others}
-use Rattle.fork_calls.proofs.Places.{Keep, changed_keeps}
+use Rattle.job_forks.proofs.Places.{Keep, changed_keeps}
 
 module _ (tree : PlainTree) (own : AreOwn tree.forks) (name : ForkName) where
   pub awake_keeps : Keep tree.forks (with_changed_of tree name without_moment).forks

@@ -12,7 +12,7 @@ use Rattle.plain_model.specs.Trees.{PlainTree}
 use Rattle.call_turns.specs.declared.answer.Answer.{Answer}
 use Rattle.call_turns.specs.declared.answer.Answer.TheVariants.{After}
 use Rattle.call_turns.specs.Answers.{answer_of}
-use Rattle.fork_calls.specs.Asking.{asked}
+use Rattle.job_forks.specs.Asking.{asked}
 
 -- a call of a fork, with these registers, among these forks, at a moment of the clock
 abbrev pub asked_at : ForkName → Regs → PlainTree → ℕ → ClockAsked

@@ -6,11 +6,11 @@ ghost use Rattle.plain_model.specs.ClockCalls.{disms as disms_of, runtm as runtm
 ghost use Rattle.plain_model.specs.Trees.{PlainTree};
 ghost use Rattle.machine_names.specs.declared.names.ForkName.{ForkName as AForkName};
 ghost use Rattle.call_turns.specs.Turns.{FitsEnd, IsRegs};
-ghost use Rattle.fork_calls.specs.Asking.{asked};
+ghost use Rattle.job_forks.specs.Asking.{asked};
 ghost use Rattle.clock_calls.specs.Turning.{IsChange, asked_at};
 
 use call_turns::{returning, with_ac};
-use fork_calls::own_named;
+use job_forks::own_named;
 use fork_tree::Tree;
 use machine_names::ForkName;
 use plain_model::Body;

@@ -6,10 +6,9 @@ ghost use Rattle.plain_model.specs.Calls.{given as given_of, is_among, numbered}
 ghost use Rattle.plain_model.specs.ClockCalls.{clock_calls, clock_changed, without_moment};
 ghost use Rattle.plain_model.specs.Forks.{OthersStay};
 ghost use Rattle.plain_model.specs.Trees.{with_changed_of};
-ghost use Rattle.call_turns.specs.Answers.{IsDone};
+ghost use Rattle.call_turns.specs.Answers.{IsDone, HasRegs};
 ghost use Rattle.call_turns.specs.Turns.{FitsEnd, IsRegs};
-ghost use Rattle.fork_calls.specs.Holding.{ComeFrom, SamePlaces};
-ghost use Rattle.fork_calls.specs.Turning.{HasRegs};
+ghost use Rattle.job_forks.specs.Holding.{ComeFrom, SamePlaces};
 ghost use Rattle.fork_tree.specs.Trees.{IsTree};
 ghost use Rattle.clock_calls.specs.Turning.{IsChange, StaysPut, Turned, asked_at, ended};
 

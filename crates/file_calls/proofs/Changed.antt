@@ -19,7 +19,8 @@ use Rattle.plain_model.specs.FileCalls.{Jobs, deleted, file_changed, files_opene
 use Rattle.file_tables.specs.declared.tables.FileTables.{FileTables}
 use Rattle.file_tables.specs.Tables.{Changes, FilesStay, file_of, files_of, jfns_at, open_of}
 use Rattle.file_tables.proofs.Names.{named, number_is}
-use Rattle.file_calls.specs.Asking.{key_in, parts}
+use Rattle.file_tables.specs.Keys.{key_of}
+use Rattle.file_calls.specs.Asking.{parts}
 use Rattle.file_calls.specs.Jobs.{AreHeld, jobs_holding}
 use Rattle.file_calls.proofs.Holding.{holds_them, jobs_changed}
 
@@ -28,7 +29,7 @@ pub some_is : {A : Type 0} (o : Option A) (P : A → Type 0) (x : A) → o ≡ S
 some_is {A} o P x is h = subst (λ (q : Option A). IsSomeAnd q P) is h
 
 -- a file's pages are under its number
-pub key_is : (tables : FileTables) (f : ℕ) → map.contains_key tables.dir f ≡ true → key_in tables (name_of tables.dir f) ≡ f
+pub key_is : (tables : FileTables) (f : ℕ) → map.contains_key tables.dir f ≡ true → key_of tables (name_of tables.dir f) ≡ f
 key_is tables f there = ap (λ (o : Option ℕ). unwrap_or o 0) ((number_is tables.dir tables.sound.numbers (name_of tables.dir f) f).1 (named tables.dir f there))
 
 -- a file that was made is there, under its name

@@ -15,8 +15,7 @@ use Rattle.plain_model.specs.Calls.{Came, Turn, ends, parts_behind, turn_on}
 use Rattle.plain_model.specs.FileCalls.{FileParts, JfnAsked, Jobs, file_changed, gtjfn}
 use Rattle.call_turns.specs.declared.answer.Answer.{Answer}
 use Rattle.call_turns.specs.declared.answer.Answer.TheVariants as answer
-use Rattle.call_turns.specs.Answers.{AnswerNeeds, IsDone, Went, answer_of}
-use Rattle.fork_calls.specs.Turning.{stopped_by}
+use Rattle.call_turns.specs.Answers.{AnswerNeeds, IsDone, Went, answer_of, stopped_by}
 use Rattle.ka10_unit.specs.declared.taken.Stop.{Stop}
 use Rattle.ka10_unit.specs.declared.taken.Stop.TheVariants.{Trap, Need}
 use Rattle.ka10_unit.specs.Gathers.{framed}
@@ -26,7 +25,8 @@ use Rattle.text_pointers.specs.declared.reader.Reader.{Reader}
 use Rattle.text_pointers.specs.Reading.{ReadsText, bytes_of, pages_so_far}
 use Rattle.text_pointers.proofs.Turns.{text_goes, text_traps}
 use Rattle.file_tables.specs.declared.tables.FileTables.{FileTables}
-use Rattle.file_calls.specs.Asking.{key_in, named_turn, names_of, parts}
+use Rattle.file_tables.specs.Keys.{key_of}
+use Rattle.file_calls.specs.Asking.{named_turn, names_of, parts}
 use Rattle.file_calls.specs.Changing.{ChangesAll, DirFollows}
 use Rattle.file_calls.specs.Turning.{EndFollows, EndsOver, Stays, Turned, behind_end}
 
@@ -121,7 +121,7 @@ module _ {P : Type 0} (means : PagesMeaning P) (p : P) (tables : FileTables) whe
   pub ends_none : (e : End FileChange) → ((what : FileChange) (regs : Regs) (out post : Option ℕ) → e ≡ Done what regs out post → ⊥) → EndsOver means p p tables tables e
   ends_none e open_end = record {
     fits = λ d fits. fits;
-    left = λ d jobs fits held. left_none e open_end (key_in tables) (parts jobs tables (means.plain p d));
+    left = λ d jobs fits held. left_none e open_end (key_of tables) (parts jobs tables (means.plain p d));
     numbers = follows_none e open_end;
     stays = stays_none e;
   }
@@ -149,7 +149,7 @@ module _ {P : Type 0} (means : PagesMeaning P) (old mid new : P) (tables tables'
       comes = λ d jobs fits held.
           let p = means.plain old d in
           let q = pages_so_far (framed means old d) reader in
-          let key = key_in tables in
+          let key = key_of tables in
           let left : parts jobs tables' (means.plain new d) ≡ parts_behind (file_changed key) (parts jobs tables p) (parts jobs tables q) e =
           over.left d jobs (pages d fits).0 held ∙ ap (λ (r : NumberedPages). let w = parts jobs tables r in parts_behind (file_changed key) w w e) (pages d fits).1
           ∙ ap (λ (w : FileParts nat_cmp). parts_behind (file_changed key) w w e) (parts_made jobs tables p q e) ∙ behind_made key (parts jobs tables p) (parts jobs tables q) e in
@@ -166,8 +166,8 @@ module _ {P : Type 0} (means : PagesMeaning P) (p : P) (tables : FileTables) (a 
     comes = λ d jobs fits held.
         let v = parts jobs tables (means.plain p d) in
         let came = turn_on (names_of tables) (means.plain p d) (gtjfn a) in
-        let here : Went (file_changed (key_in tables)) v (parts jobs tables came.pages) v (answer.Trap channel) (TrapEnd channel) = record { answered = refl; left = sym (trap_leaves (key_in tables) v (parts jobs tables came.pages) channel) } in
-        inl (subst (λ (e : End FileChange). Went (file_changed (key_in tables)) v (parts jobs tables came.pages) v (answer.Trap channel) e) (sym (traps d fits)) here);
+        let here : Went (file_changed (key_of tables)) v (parts jobs tables came.pages) v (answer.Trap channel) (TrapEnd channel) = record { answered = refl; left = sym (trap_leaves (key_of tables) v (parts jobs tables came.pages) channel) } in
+        inl (subst (λ (e : End FileChange). Went (file_changed (key_of tables)) v (parts jobs tables came.pages) v (answer.Trap channel) e) (sym (traps d fits)) here);
     numbers = λ d fits done. subst (EndFollows tables tables) (sym (traps d fits)) refl;
   }
     where

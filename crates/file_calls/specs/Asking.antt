@@ -31,10 +31,6 @@ names_of tables = record { file_of = λ none. None; is_name = λ name. is_some (
 abbrev pub named_turn : JfnAsked → Option (List ℕ) → Turn ⊥ FileChange
 named_turn a text = option_map_or (taking a) (option_and_then (file_named a.user []) text) (ends (Failed BAD_NAME))
 
--- under which key the pages of the file of a name are
-abbrev pub key_in : FileTables → List ℕ → ℕ
-key_in tables name = unwrap_or (number_of tables.dir name) 0
-
 -- the pages, the files and the jobs, as the calls on JFNs change them
 abbrev pub parts : Jobs → FileTables → NumberedPages → FileParts nat_cmp
 parts jobs tables p = record { pages = p; files = files_of tables; jobs = jobs_holding jobs (open_of tables) }

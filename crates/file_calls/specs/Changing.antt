@@ -18,7 +18,8 @@ use Rattle.plain_model.specs.declared.call.FileChange.TheVariants.{Take, Make, O
 use Rattle.plain_model.specs.FileCalls.{Jobs, file_changed}
 use Rattle.file_tables.specs.declared.tables.FileTables.{FileTables}
 use Rattle.file_tables.specs.Tables.{Holds, files_of, jfns_at, open_of, times_of}
-use Rattle.file_calls.specs.Asking.{key_in, parts}
+use Rattle.file_tables.specs.Keys.{key_of}
+use Rattle.file_calls.specs.Asking.{parts}
 use Rattle.file_calls.specs.Jobs.{AreHeld}
 
 -- a JFN is the least that is free at a terminal
@@ -61,13 +62,13 @@ IsSound tables t what = CanChange tables what × IsAt t what
 
 -- files and JFNs were changed, whatever the pages, which stay
 abbrev pub ChangesFiles : FileTables → FileTables → FileChange → Type 0
-ChangesFiles old new what = (jobs : Jobs) (p : NumberedPages) → AreHeld jobs (open_of old) → parts jobs new p ≡ file_changed (key_in old) what (parts jobs old p)
+ChangesFiles old new what = (jobs : Jobs) (p : NumberedPages) → AreHeld jobs (open_of old) → parts jobs new p ≡ file_changed (key_of old) what (parts jobs old p)
 
 -- a change was made over each drum that fits, and all jobs with these JFNs
 pub record ChangesAll {P : Type 0} (means : PagesMeaning P) (old new : P) (tables tables' : FileTables) (what : FileChange) : Type 0 where
   pub fits : (d : DrumWords) → means.fits old d → means.fits new d
   pub left : (d : DrumWords) (jobs : Jobs) → means.fits old d → AreHeld jobs (open_of tables)
-      → parts jobs tables' (means.plain new d) ≡ file_changed (key_in tables) what (parts jobs tables (means.plain old d))
+      → parts jobs tables' (means.plain new d) ≡ file_changed (key_of tables) what (parts jobs tables (means.plain old d))
 
 -- the names of files and their numbers behind a change: one more, one fewer, or as they were
 abbrev pub DirFollows : FileTables → FileTables → FileChange → Type 0

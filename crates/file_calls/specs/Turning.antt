@@ -19,7 +19,8 @@ use Rattle.ka10_unit.specs.Gathers.{Framed, framed}
 use Rattle.text_pointers.specs.Outcomes.{read_over, stops}
 use Rattle.file_tables.specs.declared.tables.FileTables.{FileTables}
 use Rattle.file_tables.specs.Tables.{open_of}
-use Rattle.file_calls.specs.Asking.{key_in, names_of, parts}
+use Rattle.file_tables.specs.Keys.{key_of}
+use Rattle.file_calls.specs.Asking.{names_of, parts}
 use Rattle.file_calls.specs.Changing.{DirFollows}
 use Rattle.file_calls.specs.Jobs.{AreHeld}
 
@@ -31,7 +32,7 @@ TextNeeds p a n = read_over a.who p a.regs (text_at a.regs (in_ac a.regs 2)) p.p
 abbrev pub ComesOut : Framed → Jobs → FileTables → JfnAsked → FileParts nat_cmp → Answer → Turn ⊥ FileChange → Type 0
 ComesOut p jobs tables a new result t =
     let c = turn_on (names_of tables) p.pages t in
-    IsTurn (TextNeeds p a) (file_changed (key_in tables)) (parts jobs tables p.pages) (parts jobs tables c.pages) new result c.end
+    IsTurn (TextNeeds p a) (file_changed (key_of tables)) (parts jobs tables p.pages) (parts jobs tables c.pages) new result c.end
 
 -- the names of files and their numbers behind a turn that ends so
 abbrev pub EndFollows : FileTables → FileTables → End FileChange → Type 0
@@ -52,7 +53,7 @@ Stays old new tables tables' answer = (new ≡ old) × (tables' ≡ tables)
 pub record EndsOver {P : Type 0} (means : PagesMeaning P) (old new : P) (tables tables' : FileTables) (e : End FileChange) : Type 0 where
   pub fits : (d : DrumWords) → means.fits old d → means.fits new d
   pub left : (d : DrumWords) (jobs : Jobs) → means.fits old d → AreHeld jobs (open_of tables)
-      → let v = parts jobs tables (means.plain old d) in parts jobs tables' (means.plain new d) ≡ parts_behind (file_changed (key_in tables)) v v e
+      → let v = parts jobs tables (means.plain old d) in parts jobs tables' (means.plain new d) ≡ parts_behind (file_changed (key_of tables)) v v e
   pub numbers : EndFollows tables tables' e
   pub stays : Stays old new tables tables' (answer_of e)
 

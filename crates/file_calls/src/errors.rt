@@ -3,11 +3,11 @@ ghost use Rattle.std.specs.Prelude.{◌≡◌};
 ghost use Rattle.plain_model.specs.Calls.{with_ac as with_ac_of};
 ghost use Rattle.plain_model.specs.FileCalls.{geter as geter_of};
 ghost use Rattle.call_turns.specs.Turns.{IsRegs};
-ghost use Rattle.fork_calls.specs.Asking.{asked};
+ghost use Rattle.job_forks.specs.Asking.{asked};
 ghost use Rattle.file_calls.specs.Answering.{Answers};
 
 use call_turns::{Answer, answer_of, returning, with_ac};
-use fork_calls::own_named;
+use job_forks::own_named;
 use fork_tree::Tree;
 use machine_names::ForkName;
 use plain_units::Regs;

@@ -6,9 +6,8 @@ ghost use Rattle.page_gather.specs.Gathering.{left_of};
 ghost use Rattle.plain_units.specs.Deeds.{in_ac};
 ghost use Rattle.plain_model.specs.Calls.{ends, is_among};
 ghost use Rattle.plain_model.specs.FileCalls.{gtjfn as gtjfn_of, jfn_call as jfn_call_of, jfn_calls};
-ghost use Rattle.call_turns.specs.Answers.{AnswerNeeds, IsDone, answer_of as answer_to};
+ghost use Rattle.call_turns.specs.Answers.{AnswerNeeds, IsDone, answer_of as answer_to, HasRegs};
 ghost use Rattle.call_turns.specs.Turns.{FitsEnd, IsRegs};
-ghost use Rattle.fork_calls.specs.Turning.{HasRegs, stopped_by};
 ghost use Rattle.ka10_unit.specs.Carrying.{Grows};
 ghost use Rattle.ka10_unit.specs.Gathers.{Serves, framed};
 ghost use Rattle.text_pointers.specs.Reading.{Stands, text_frames};
@@ -20,9 +19,8 @@ ghost use Rattle.file_calls.specs.Turning.{EndsOver, Stays, Turned, behind_end};
 use crate::changing::change;
 use crate::jfns::{closf, delf, openf, rljfn};
 use crate::naming::named;
-use call_turns::{Answer, answer_of};
+use call_turns::{Answer, answer_of, stopped};
 use file_tables::FileTables;
-use ka10_unit::Stop;
 use machine_names::{DirName, ForkName};
 use page_contracts::Pages;
 use plain_model::call::{CLOSF, DELF, End, FileChange, GTJFN, OPENF, RLJFN};
@@ -54,17 +52,6 @@ fn ending(number: u32, regs: &Regs, who: ForkName, tables: &FileTables) -> End<F
         RLJFN => rljfn(regs, who, tables),
         DELF => delf(regs, who, tables),
         _ => End::Trap(ILLEGAL_INSTRUCTION),
-    }
-}
-
-// A call that stops before its end.
-fn stopped(stop: Stop) -> Answer
-    ensures answer { result ≡ stopped_by stop }
-    ensures regs { HasRegs result }
-{
-    match stop {
-        Stop::Trap(channel) => Answer::Trap(channel),
-        Stop::Need(need) => Answer::Need(need),
     }
 }
 

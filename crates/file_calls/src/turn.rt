@@ -3,7 +3,7 @@ ghost use Rattle.std.specs.Prelude.{◌≡◌};
 ghost use Rattle.plain_model.specs.Calls.{is_among};
 ghost use Rattle.plain_model.specs.FileCalls.{file_call, file_calls};
 ghost use Rattle.call_turns.specs.Turns.{IsRegs};
-ghost use Rattle.fork_calls.specs.Asking.{asked};
+ghost use Rattle.job_forks.specs.Asking.{asked};
 ghost use Rattle.file_calls.specs.Answering.{Answers};
 
 use crate::errors::geter;

@@ -8,3 +8,4 @@ pub mod Files
 pub mod Jobs
 pub mod Pages
 pub mod Counts
+pub mod Known

@@ -31,8 +31,8 @@ use Rattle.fork_tree.specs.Trees.{AreSlotted, Lives}
 use Rattle.fork_tree.proofs.Listed.{full_listed, listed_most}
 use Rattle.fork_tree.proofs.Ranges.{first_tells}
 use Rattle.fork_tree.proofs.Slots.{empty_of}
-use Rattle.fork_calls.specs.Holding.{Holds}
-use Rattle.fork_calls.proofs.Places.{one_fewer, others_same}
+use Rattle.job_forks.specs.Holding.{Holds}
+use Rattle.job_forks.proofs.Places.{one_fewer, others_same}
 
 -- ---- plain pages
 

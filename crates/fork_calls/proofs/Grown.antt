@@ -15,7 +15,7 @@ use Rattle.plain_model.proofs.ForkMaps.{get_put, put_again}
 use Rattle.fork_tree.specs.declared.tree.NoFork.{NoFork}
 use Rattle.fork_tree.specs.declared.tree.NoFork.TheVariants.{ForksFull, SerialsOut}
 use Rattle.fork_tree.specs.Making.{slot_for, with_new, with_new_in, room_for}
-use Rattle.fork_calls.specs.Asking.{asked}
+use Rattle.job_forks.specs.Asking.{asked}
 use Rattle.fork_calls.specs.Steps.{begun}
 
 -- a tree has room

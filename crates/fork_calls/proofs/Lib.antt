@@ -1,14 +1,6 @@
-pub mod Counted
-pub mod Places
-pub mod Holdings
-pub mod Tops
-pub mod Maps
-pub mod CallLeaving
 pub mod Frozen
 pub mod OtherRuns
 pub mod Halting
-pub mod Branch
-pub mod Bodies
 pub mod Going
 pub mod TurnBlocks
 pub mod Grown

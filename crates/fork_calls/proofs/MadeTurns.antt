@@ -27,11 +27,10 @@ use Rattle.fork_tree.proofs.Slots.{some_of}
 use Rattle.ka10_unit.specs.declared.taken.Stop.{Stop}
 use Rattle.ka10_unit.specs.declared.taken.Stop.TheVariants.{Trap, Need}
 use Rattle.fork_calls.specs.Blocks.{GoesOnWith, TookAccumulators}
-use Rattle.fork_calls.specs.Holding.{ComeOrNew, IsNew}
+use Rattle.job_forks.specs.Holding.{ComeOrNew, IsNew, parts}
 use Rattle.fork_calls.specs.Needing.{TurnNeeds}
 use Rattle.fork_calls.specs.Steps.{made_where}
-use Rattle.fork_calls.specs.Turning.{parts}
-use Rattle.fork_calls.proofs.Places.{came_itself}
+use Rattle.job_forks.proofs.Places.{came_itself}
 use Rattle.fork_calls.proofs.TurnBlocks.{StopsSo}
 
 module _ (a : Asked) (slot : ℕ) (p : NumberedPages) where

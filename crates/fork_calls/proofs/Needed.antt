@@ -11,11 +11,10 @@ use Rattle.page_contracts.specs.declared.answers.Need.TheVariants as need
 use Rattle.page_contracts.proofs.Losing.{needed_more}
 use Rattle.call_turns.specs.declared.answer.Answer.{Answer}
 use Rattle.call_turns.specs.declared.answer.Answer.TheVariants as answer
-use Rattle.call_turns.specs.Answers.{AnswerNeeds, IsDone, answer_of}
+use Rattle.call_turns.specs.Answers.{AnswerNeeds, IsDone, answer_of, stopped_by}
 use Rattle.ka10_unit.specs.declared.taken.Stop.{Stop}
 use Rattle.ka10_unit.specs.declared.taken.Stop.TheVariants as stop
 use Rattle.ka10_unit.specs.Taking.{StopNeeds}
-use Rattle.fork_calls.specs.Turning.{stopped_by}
 
 module _ {P : Type 0} (store : StoreMeaning P) (most : ℕ) (p : P) where
   -- an end needs nothing

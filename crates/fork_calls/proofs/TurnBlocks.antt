@@ -26,9 +26,10 @@ use Rattle.ka10_unit.specs.declared.taken.Stop.TheVariants.{Trap, Need}
 use Rattle.ka10_unit.specs.Blocks.{TakesBlock}
 use Rattle.ka10_unit.specs.Gathers.{Framed}
 use Rattle.ka10_unit.specs.Taking.{pages_so_far}
-use Rattle.call_turns.specs.Answers.{answer_of}
+use Rattle.call_turns.specs.Answers.{answer_of, stopped_by}
 use Rattle.fork_calls.specs.Needing.{TurnNeeds}
-use Rattle.fork_calls.specs.Turning.{parts, stopped_by, ComesOut}
+use Rattle.job_forks.specs.Holding.{parts}
+use Rattle.fork_calls.specs.Turning.{ComesOut}
 use Rattle.fork_calls.proofs.Going.{goes, stops, WentTo}
 use Rattle.fork_calls.specs.Blocks.{GoesOn, GoesOnWith, TookAccumulators, TookBlock}
 

@@ -1,6 +1,3 @@
-pub mod Limits
-pub mod Asking
-pub mod Holding
 pub mod Steps
 pub mod Turning
 pub mod Blocks

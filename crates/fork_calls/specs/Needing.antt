@@ -22,29 +22,12 @@ use Rattle.call_turns.specs.Needing.{TurnNeeds as NeedsOf}
 use Rattle.ka10_unit.specs.Gathers.{Framed}
 use Rattle.ka10_unit.specs.Taking.{most_frames, run_over}
 
--- a fork goes with one that is killed: it is that one, or below it
-abbrev pub GoesWith : ForkMap → ForkName → ForkName → Type 0
-GoesWith forks name f = (f ≡ name) ⊎ (is_inferior forks name f ≡ true)
-
--- the map of a fork stands at the home that is needed, in no frame
-abbrev pub IsMapAway : Scene → ForkName → Need → Type 0
-IsMapAway scene f (need.Page home) = scene.map_away f ≡ Some home.0
-IsMapAway scene f need.Frame = ⊥
-
--- the maps of all that go with one that is killed are in frames
-abbrev pub AreMapsHere : Scene → ForkMap → ForkName → Type 0
-AreMapsHere scene forks name = (f : ForkName) → GoesWith forks name f → scene.map_away f ≡ None
-
--- a kill needs the map of one that goes with it
-pub record IsKilledAway (scene : Scene) (forks : ForkMap) (name : ForkName) (n : Need) : Type 0 where
-  pub fork : ForkName
-  pub goes : GoesWith forks name fork
-  pub away : IsMapAway scene fork n
-
+-- a change needs what a kill does
 abbrev pub ChangeNeeds : Scene → ForkMap → ForkChange → Need → Type 0
 ChangeNeeds scene forks (Kill name) n = IsKilledAway scene forks name n
 ChangeNeeds scene forks what n = ⊥
 
+-- and so does an end
 abbrev pub EndNeeds : Scene → ForkMap → End ForkChange → Need → Type 0
 EndNeeds scene forks (Done what regs out post) n = ChangeNeeds scene forks what n
 EndNeeds scene forks e n = ⊥
@@ -56,9 +39,6 @@ ForkEndNeeds forks scene p e n = EndNeeds scene forks e n
 -- what references need; behind its words no fork call needs anything
 abbrev pub WordsNeed : Scene → NumberedPages → ForkName → Regs → Steps → (Scene → NumberedPages → Ending → Type 0) → Need → Type 0
 WordsNeed scene p f regs steps later n = run_over f (record { pages = p; scene = scene }) steps (begun p regs.ac) ≡ stopped (needs n)
-
-abbrev pub NoTouches : Scene → NumberedPages → Tty → Spot ℕ → Kind → (Scene → NumberedPages → Touched → Type 0) → Need → Type 0
-NoTouches scene p owner at kind later n = ⊥
 
 -- WHAT A TURN NEEDS FIRST: a frame for a new map, what its references need, with the new map there, or the maps of forks that are killed
 abbrev pub TurnNeeds : Framed → ForkMap → Turn ⊥ ForkChange → Need → Type 0

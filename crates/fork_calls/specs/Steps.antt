@@ -22,8 +22,8 @@ use Rattle.fork_tree.specs.Trees.{Lives}
 use Rattle.call_turns.specs.Turns.{FitsEnd}
 use Rattle.fork_calls.specs.declared.step.FirstStep.{FirstStep}
 use Rattle.fork_calls.specs.declared.step.FirstStep.TheVariants.{Ends, Makes, Sets, Stores}
-use Rattle.fork_calls.specs.Asking.{IsBelow}
-use Rattle.fork_calls.specs.Limits.{IsBody}
+use Rattle.job_forks.specs.Asking.{IsBelow}
+use Rattle.job_forks.specs.Limits.{IsBody}
 
 -- how SFACS ends, told the words
 abbrev pub set_end : Asked → Fork → List ℕ → End ForkChange
@@ -58,13 +58,6 @@ halted f = with_status f Halted
 -- a new fork with its accumulators
 abbrev pub begun : Regs → List ℕ → Fork → Fork
 begun regs words f = record f { body = made_body regs words f.body }
-
--- a body that comes of that of a fork that lives: it has run as many units, and keeps its limits
-pub record IsBodyOf (forks : ForkMap) (name : ForkName) (b : Body) : Type 0 where
-  pub fork : Fork
-  pub lives : map.get forks name ≡ Some fork
-  pub units : b.units ≡ fork.body.units
-  pub within : IsBody fork.body → IsBody b
 
 -- a change of an inferior, made with no word of a page
 abbrev pub IsChangeBelow : ForkMap → ForkName → ForkChange → Type 0

@@ -18,10 +18,6 @@ use Rattle.ka10_unit.specs.declared.taken.Stop.TheVariants as stop
 use Rattle.ka10_unit.specs.Gathers.{Framed, framed}
 use Rattle.fork_calls.specs.Needing.{ChangeNeeds, TurnNeeds}
 
--- forks and pages, as the fork calls change them
-abbrev pub parts : PlainTree → NumberedPages → ForkParts nat_cmp
-parts tree p = record { tree = tree; pages = p }
-
 -- a turn comes out over the plain pages as it does here
 abbrev pub ComesOut : Framed → PlainTree → ForkParts nat_cmp → Answer → Turn ⊥ ForkChange → Type 0
 ComesOut p tree new result t =
@@ -41,13 +37,3 @@ MadeOver p new tree tree' (Err n) what = (parts tree' new ≡ parts tree p.pages
 
 abbrev pub ChangesIf : {P : Type 0} → PagesMeaning P → P → P → PlainTree → PlainTree → Result ⊤ Need → ForkChange → Type 0
 ChangesIf means old new tree tree' result what = (d : DrumWords) → means.fits old d → means.fits new d × MadeOver (framed means old d) (means.plain new d) tree tree' result what
-
--- how an answer says that a call stops
-abbrev pub stopped_by : Stop → Answer
-stopped_by (stop.Trap channel) = answer.Trap channel
-stopped_by (stop.Need n) = answer.Need n
-
--- an answer with registers and a character within their limits
-abbrev pub HasRegs : Answer → Type 0
-HasRegs (answer.After regs out post) = IsRegs regs × IsOut out
-HasRegs other = Unit {0}

@@ -6,15 +6,16 @@ ghost use Rattle.plain_model.specs.ForkCalls.{cfork as cfork_of, of_inferior, rf
 ghost use Rattle.plain_model.specs.Forks.{no_levels};
 ghost use Rattle.machine_names.specs.Bounds.{IsTerminal};
 ghost use Rattle.call_turns.specs.Turns.{IsRegs};
-ghost use Rattle.fork_calls.specs.Asking.{asked};
-ghost use Rattle.fork_calls.specs.Limits.{AreWithin, IsBody};
+ghost use Rattle.job_forks.specs.Asking.{asked};
+ghost use Rattle.job_forks.specs.Limits.{AreWithin, IsBody};
 ghost use Rattle.fork_calls.specs.Steps.{FitsStep, MakesOrFails, whole};
 
-use crate::naming::{address_named, inferior_named, own_named};
+use crate::words::address_named;
 use crate::standing::{place_word, status_word};
 use crate::step::FirstStep;
 use call_turns::{returning, with_ac};
 use fork_tree::{NoFork, Tree};
+use job_forks::{inferior_named, own_named};
 use machine_names::ForkName;
 use plain_model::call::{End, FORKS_FULL, ForkChange, SERIALS_OUT};
 use plain_model::interrupt::LEVELS;

@@ -8,10 +8,11 @@ ghost use Rattle.plain_pages.specs.PlainPages.{NumberedPages};
 ghost use Rattle.plain_model.specs.Forks.{OthersStay};
 ghost use Rattle.plain_model.specs.Trees.{with_changed_of};
 ghost use Rattle.fork_tree.specs.Trees.{IsTree};
-ghost use Rattle.fork_calls.specs.Asking.{IsBelow};
-ghost use Rattle.fork_calls.specs.Holding.{CallLeaves, ComeFrom, Holds, SamePlaces};
-ghost use Rattle.fork_calls.specs.Steps.{IsBodyOf, IsChangeBelow, halted};
-ghost use Rattle.fork_calls.specs.Turning.{ChangesIf, parts};
+ghost use Rattle.job_forks.specs.Asking.{IsBelow};
+ghost use Rattle.job_forks.specs.Holding.{CallLeaves, ComeFrom, Holds, SamePlaces, parts};
+ghost use Rattle.job_forks.specs.Limits.{IsBodyOf};
+ghost use Rattle.fork_calls.specs.Steps.{IsChangeBelow, halted};
+ghost use Rattle.fork_calls.specs.Turning.{ChangesIf};
 
 use crate::killing::kill;
 use fork_tree::Tree;

@@ -3,19 +3,17 @@ ghost use Rattle.std.specs.Prelude.{◌≡◌, ℕ, true, None};
 ghost use Rattle.plain_model.specs.declared.call.End.{End as AnEnd};
 ghost use Rattle.plain_model.specs.declared.call.ForkChange.{ForkChange as AForkChange};
 ghost use Rattle.plain_units.specs.declared.registers.Regs.{Regs as ARegs};
-ghost use Rattle.call_turns.specs.Answers.{AnswerNeeds, IsDone, answer_of as answer_to};
+ghost use Rattle.call_turns.specs.Answers.{AnswerNeeds, IsDone, answer_of as answer_to, HasRegs};
 ghost use Rattle.call_turns.specs.Turns.{IsRegs, FitsEnd};
-ghost use Rattle.fork_calls.specs.Holding.{CallLeaves, Holds};
-ghost use Rattle.fork_calls.specs.Asking.{asked};
+ghost use Rattle.job_forks.specs.Holding.{CallLeaves, Holds};
+ghost use Rattle.job_forks.specs.Asking.{asked};
 ghost use Rattle.fork_calls.specs.Steps.{IsChangeBelow, whole};
-ghost use Rattle.fork_calls.specs.Turning.{HasRegs, Turned, stopped_by};
-ghost use Rattle.ka10_unit.specs.Taking.{IsTrap};
+ghost use Rattle.fork_calls.specs.Turning.{Turned};
 ghost use Rattle.fork_calls.specs.declared.step.FirstStep.{FirstStep as AFirstStep};
 
 use crate::changing::change;
 use call_turns::{Answer, answer_of};
 use fork_tree::Tree;
-use ka10_unit::Stop;
 use machine_names::ForkName;
 use page_contracts::Pages;
 use plain_model::call::{End, ForkChange};
@@ -35,18 +33,6 @@ pub fn returned(regs: Regs) -> Answer
         post: None,
     };
     answer_of(end)
-}
-
-/// A call that stops before its end.
-pub fn stopped(stop: Stop) -> Answer
-    ensures answer { result ≡ stopped_by stop }
-    ensures core { IsTrap stop → IsDone result }
-    ensures regs { HasRegs result }
-{
-    match stop {
-        Stop::Trap(channel) => Answer::Trap(channel),
-        Stop::Need(need) => Answer::Need(need),
-    }
 }
 
 /// Ends a turn that asked for no word: its change is made, if it has one, or needs something first.

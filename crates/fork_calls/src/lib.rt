@@ -1,6 +1,6 @@
 //! The fork calls: CFORK, KFORK, FFORK, RFORK, RFSTS, SFORK, SFACS, RFACS, HFORK, WFORK, HALTF.
 //! To the machine a turn of one is a function: its answer, and the forks and pages that it leaves, are those of the plain call.
-//! Stands on `fork_tree`, on `ka10_unit` for blocks of words, on `call_turns` for how a turn ends, and on `plain_model`.
+//! Stands on `job_forks` for whom a call names, on `ka10_unit` for blocks of words, on `call_turns` for how a turn ends, and on `plain_model`.
 #![tactic(auto)]
 
 mod calls;
@@ -8,7 +8,6 @@ mod changing;
 mod ending;
 mod killing;
 mod making;
-mod naming;
 mod standing;
 mod step;
 mod storing;
@@ -16,7 +15,5 @@ mod table;
 mod turn;
 mod words;
 
-pub use killing::{ask_maps, kill_bare, kill_below};
-pub use naming::own_named;
 pub use table::is_fork_call;
 pub use turn::call;

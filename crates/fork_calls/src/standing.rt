@@ -3,10 +3,10 @@ ghost use Rattle.std.specs.Prelude.{◌≡◌, ◌<◌, ◌≤◌, ◌^◌};
 ghost use Rattle.plain_model.specs.AccessWords.{bit_word};
 ghost use Rattle.plain_model.specs.ForkCalls.{place_word as place_word_of, status_channel as status_channel_of, status_code as status_code_of, status_word as status_word_of};
 ghost use Rattle.call_turns.specs.Turns.{IsRegs};
-ghost use Rattle.fork_calls.specs.Asking.{asked};
+ghost use Rattle.job_forks.specs.Asking.{asked};
 
-use crate::naming::same_fork;
 use fork_tree::Tree;
+use job_forks::same_fork;
 use ka10_deeds::{half_of_flags, pc_word};
 use machine_names::ForkName;
 use plain_model::Fork;

@@ -5,8 +5,8 @@ ghost use Rattle.plain_model.specs.declared.call.TheConstants.{CFORK};
 ghost use Rattle.plain_model.specs.ForkCalls.{fork_call, fork_calls};
 ghost use Rattle.machine_names.specs.Bounds.{IsTerminal};
 ghost use Rattle.call_turns.specs.Turns.{IsRegs};
-ghost use Rattle.fork_calls.specs.Asking.{asked};
-ghost use Rattle.fork_calls.specs.Limits.{AreWithin};
+ghost use Rattle.job_forks.specs.Asking.{asked};
+ghost use Rattle.job_forks.specs.Limits.{AreWithin};
 ghost use Rattle.fork_calls.specs.Steps.{FitsStep, MakesOrFails, whole};
 
 use crate::calls::{cfork, ffork, hfork, kfork, rfacs, rfork, rfsts, sfacs, sfork, wfork};

@@ -5,13 +5,13 @@ ghost use Rattle.plain_model.specs.ForkCalls.{fork_call};
 ghost use Rattle.plain_model.specs.declared.call.TheConstants.{CFORK};
 ghost use Rattle.fork_tree.specs.Making.{AddsLast};
 ghost use Rattle.page_contracts.specs.declared.answers.Need.{Need as ANeed};
-ghost use Rattle.call_turns.specs.Answers.{AnswerNeeds, IsDone};
+ghost use Rattle.call_turns.specs.Answers.{AnswerNeeds, IsDone, HasRegs};
 ghost use Rattle.call_turns.specs.Turns.{IsRegs};
-ghost use Rattle.fork_calls.specs.Asking.{asked};
-ghost use Rattle.fork_calls.specs.Holding.{CallLeaves, Holds, MakesPages};
-ghost use Rattle.fork_calls.specs.Limits.{AreWithin};
+ghost use Rattle.job_forks.specs.Asking.{asked};
+ghost use Rattle.job_forks.specs.Holding.{CallLeaves, Holds, MakesPages};
+ghost use Rattle.job_forks.specs.Limits.{AreWithin};
 ghost use Rattle.fork_calls.specs.Needing.{call_frames};
-ghost use Rattle.fork_calls.specs.Turning.{HasRegs, Turned};
+ghost use Rattle.fork_calls.specs.Turning.{Turned};
 
 use crate::ending::end;
 use crate::making::make;

@@ -1,4 +1,4 @@
-// Sixteen words of the caller.
+// Sixteen words of the caller, and the address that names them.
 ghost use Rattle.std.specs.Prelude.{◌≡◌, ◌<◌, ◌^◌, Ok, IfErr, OnErr, List, ℕ, true};
 ghost use Rattle.machine_names.specs.declared.names.Kind.{Kind as AKind};
 ghost use Rattle.machine_names.specs.declared.names.TheConstants.{ACCUMULATORS};
@@ -8,6 +8,8 @@ ghost use Rattle.ka10_unit.specs.Blocks.{AreOpenAt};
 ghost use Rattle.ka10_unit.specs.Carrying.{Grows};
 ghost use Rattle.ka10_unit.specs.Gathers.{Serves, framed};
 ghost use Rattle.ka10_unit.specs.Taking.{IsTrap, StopNeeds, most_frames};
+ghost use Rattle.plain_model.specs.ForkCalls.{address_named as address_named_of};
+ghost use Rattle.call_turns.specs.Turns.{IsRegs};
 ghost use Rattle.fork_calls.specs.Blocks.{TookBlock};
 
 use ka10_unit::{Stop, Taken, make_block, refer_block};
@@ -15,6 +17,15 @@ use machine_names::{ForkName, Kind};
 use page_contracts::Pages;
 use plain_units::Regs;
 use word36::Word;
+
+/// The address in accumulator 2.
+pub fn address_named(regs: &Regs) -> u32
+    requires { IsRegs regs.now }
+    ensures address { result ≡ address_named_of regs.now }
+    ensures low { IsAddress result }
+{
+    regs.ac[2].right()
+}
 
 /// Refers to sixteen words of a fork from an address on, makes their pages, and takes the words. Err: a page of one, or a
 /// map on its way, is in no frame; one is denied; or for one a page has to be made while the drum is full, or no frame is

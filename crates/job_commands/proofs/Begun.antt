@@ -3,7 +3,7 @@ use Rattle.std.proofs.Common.{ℕ, ◌<◌, ◌^◌, refl}
 use Rattle.plain_model.specs.declared.fork.Fork.{Fork}
 use Rattle.plain_model.specs.Forks.{first_regs, psi_at_rest}
 use Rattle.plain_model.specs.Commands.{begun_at}
-use Rattle.fork_calls.proofs.Places.{IsMild}
+use Rattle.job_forks.proofs.Places.{IsMild}
 
 pub begun_mild : (address : ℕ) (f : Fork) → address < 2 ^ 18 → IsMild (begun_at address) f
 unfolding first_regs psi_at_rest

@@ -8,7 +8,7 @@ use Rattle.plain_model.specs.Forks.{ForkMap, OthersStay}
 use Rattle.plain_model.specs.Trees.{PlainTree}
 use Rattle.page_contracts.specs.Pages.{PagesMeaning, MayLose}
 use Rattle.fork_tree.specs.Trees.{Lives}
-use Rattle.fork_calls.specs.Holding.{ComeFrom, Holds, MakesPages, TopsStay}
+use Rattle.job_forks.specs.Holding.{ComeFrom, Holds, MakesPages, TopsStay}
 
 -- a fork is the top fork of its job
 abbrev pub IsTop : ForkMap → ForkName → Type 0

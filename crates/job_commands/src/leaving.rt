@@ -9,11 +9,10 @@ ghost use Rattle.page_contracts.specs.Pages.{MayLose};
 ghost use Rattle.plain_model.specs.ForkCalls.{killed, without_below};
 ghost use Rattle.plain_model.specs.Forks.{OthersStay};
 ghost use Rattle.fork_tree.specs.Inferiors.{HasNoInferior};
-ghost use Rattle.fork_calls.specs.Holding.{ComeFrom, Holds, MakesPages, TopsStay};
-ghost use Rattle.fork_calls.specs.Turning.{parts};
+ghost use Rattle.job_forks.specs.Holding.{ComeFrom, Holds, MakesPages, TopsStay, parts};
 ghost use Rattle.job_commands.specs.Leaving.{IsTop, LogoutLeaves};
 
-use fork_calls::{ask_maps, kill_bare, kill_below};
+use job_forks::{ask_maps, kill_bare, kill_below};
 use fork_tree::Tree;
 use machine_names::ForkName;
 use page_contracts::Pages;

@@ -6,8 +6,7 @@ ghost use Rattle.page_contracts.specs.DrumWords.{DrumWords};
 ghost use Rattle.plain_model.specs.Commands.{begun_at, with_program_body};
 ghost use Rattle.plain_model.specs.Trees.{with_changed_of};
 ghost use Rattle.fork_tree.specs.Trees.{IsTree};
-ghost use Rattle.fork_calls.specs.Holding.{Holds};
-ghost use Rattle.fork_calls.specs.Turning.{parts};
+ghost use Rattle.job_forks.specs.Holding.{Holds, parts};
 ghost use Rattle.job_commands.specs.Leaving.{RunLeaves};
 ghost use Rattle.job_commands.specs.Programs.{IsRun};
 

@@ -28,10 +28,9 @@ use Rattle.call_turns.specs.declared.answer.Answer.{Answer}
 use Rattle.call_turns.specs.Answers.{IsTurn}
 use Rattle.file_tables.specs.declared.tables.FileTables.{FileTables}
 use Rattle.file_tables.specs.Tables.{files_of, jfns_at, open_of}
-use Rattle.file_calls.specs.Asking.{key_in}
-use Rattle.pmap_calls.specs.Asking.{seen_in}
-use Rattle.byte_io.specs.Asking.{HasLine, asked_on, jobs_with, parts}
-use Rattle.byte_io.specs.Turning.{OthersStay}
+use Rattle.file_tables.specs.Keys.{key_of, seen_in}
+use Rattle.file_bytes.specs.Asking.{HasLine, asked_on, jobs_with, parts}
+use Rattle.file_bytes.specs.Turning.{OthersStay}
 use Rattle.monitor_calls.specs.declared.job.Job.{Job}
 use Rattle.monitor_calls.specs.declared.typing.Typing.{Typing}
 use Rattle.monitor_calls.specs.ForkUnit.{Tables, TurnedSo, answered_turn, parts_in, rest_of}
@@ -63,7 +62,7 @@ module _ (was : Tables) (who : ForkName) (regs : Regs) (number : ℕ) (j : Job) 
   }
 
   -- who asks what
-  bytes_asked : (p : NumberedPages) → asks_bytes (key_in was.files) (parts_in (rest_of was) p) who regs ≡ asked_on who regs was.files line.input p
+  bytes_asked : (p : NumberedPages) → asks_bytes (key_of was.files) (parts_in (rest_of was) p) who regs ≡ asked_on who regs was.files line.input p
   bytes_asked p = λ i. record (asked_on who regs was.files line.input p) { held = has_line.jfns i; input = has_line.input i }
 
   -- how it comes out, of calls that are asked so
@@ -97,27 +96,27 @@ module _ (was : Tables) (who : ForkName) (regs : Regs) (number : ℕ) (j : Job) 
     told x p = record { pages = p; files = files_of x.files; jobs = jobs_of (open_of x.files) x.typed x.jobs }
 
     -- so it is left, where what is behind it is known by its family
-    module _ (rows : ByteRows) (p q : NumberedPages) (a : Answer) (went : BytesWent (key_in was.files) (parts_in (rest_of was) p) who regs number rows (told now q) a → call_turned (key_in was.files) (parts_in (rest_of was) p) who regs number ≡ answered_turn (with_filed (parts_in (rest_of was) p) (told now q)) who a) where
+    module _ (rows : ByteRows) (p q : NumberedPages) (a : Answer) (went : BytesWent (key_of was.files) (parts_in (rest_of was) p) who regs number rows (told now q) a → call_turned (key_of was.files) (parts_in (rest_of was) p) who regs number ≡ answered_turn (with_filed (parts_in (rest_of was) p) (told now q)) who a) where
       pub rows_turned : (IsReason : Need → Type 0)
-          → (let c = came rows p (asked_on who regs was.files line.input p) in IsTurn IsReason (byte_changed (key_in was.files)) (parts jobs was.files p) (parts jobs was.files c.pages) (parts (jobs_with jobs t files left) files q) a c.end)
-          → TurnedSo (key_in was.files) (parts_in (rest_of was) p) (parts_in (rest_of now) q) who regs number a
+          → (let c = came rows p (asked_on who regs was.files line.input p) in IsTurn IsReason (byte_changed (key_of was.files)) (parts jobs was.files p) (parts jobs was.files c.pages) (parts (jobs_with jobs t files left) files q) a c.end)
+          → TurnedSo (key_of was.files) (parts_in (rest_of was) p) (parts_in (rest_of now) q) who regs number a
       rows_turned IsReason comes =
           let v = parts_in (rest_of was) p in
-          let as_told = subst (λ (js : Jobs). let c = came rows p (asked_on who regs was.files line.input p) in IsTurn IsReason (byte_changed (key_in was.files)) (told was p) (told was c.pages) (parts js files q) a c.end) jobs_left comes in
-          let as_asked = subst (λ (b : ByteAsked). let c = came rows p b in IsTurn IsReason (byte_changed (key_in was.files)) (told was p) (told was c.pages) (told now q) a c.end) (sym (bytes_asked p)) as_told in
-          turned_so (key_in was.files) (with_filed v) (filed_of v) (told now q) who regs number a as_asked went
+          let as_told = subst (λ (js : Jobs). let c = came rows p (asked_on who regs was.files line.input p) in IsTurn IsReason (byte_changed (key_of was.files)) (told was p) (told was c.pages) (parts js files q) a c.end) jobs_left comes in
+          let as_asked = subst (λ (b : ByteAsked). let c = came rows p b in IsTurn IsReason (byte_changed (key_of was.files)) (told was p) (told was c.pages) (told now q) a c.end) (sym (bytes_asked p)) as_told in
+          turned_so (key_of was.files) (with_filed v) (filed_of v) (told now q) who regs number a as_asked went
 
     module _ (printless : is_among print_calls number ≡ false) (unforked : is_among fork_calls number ≡ false) (unposted : is_among interrupt_calls number ≡ false) (untimed : is_among clock_calls number ≡ false) (unmapped : is_among map_calls number ≡ false) (unfiled : is_among file_calls number ≡ false) (unopened : is_among jfn_calls number ≡ false) where
       -- a call on bytes
       pub byte_turned : is_among byte_calls number ≡ true → (IsReason : Need → Type 0) (p q : NumberedPages) (a : Answer)
-          → (let c = came byte_calls p (asked_on who regs was.files line.input p) in IsTurn IsReason (byte_changed (key_in was.files)) (parts jobs was.files p) (parts jobs was.files c.pages) (parts (jobs_with jobs t files left) files q) a c.end)
-          → TurnedSo (key_in was.files) (parts_in (rest_of was) p) (parts_in (rest_of now) q) who regs number a
+          → (let c = came byte_calls p (asked_on who regs was.files line.input p) in IsTurn IsReason (byte_changed (key_of was.files)) (parts jobs was.files p) (parts jobs was.files c.pages) (parts (jobs_with jobs t files left) files q) a c.end)
+          → TurnedSo (key_of was.files) (parts_in (rest_of was) p) (parts_in (rest_of now) q) who regs number a
       byte_turned bytes IsReason p q a comes =
-          rows_turned byte_calls p q a (λ went. bytes_went (key_in was.files) (parts_in (rest_of was) p) who regs number printless unforked unposted untimed unmapped unfiled unopened bytes (told now q) a went) IsReason comes
+          rows_turned byte_calls p q a (λ went. bytes_went (key_of was.files) (parts_in (rest_of was) p) who regs number printless unforked unposted untimed unmapped unfiled unopened bytes (told now q) a went) IsReason comes
 
       -- a call on strings
       pub string_turned : is_among byte_calls number ≡ false → is_among string_calls number ≡ true → (IsReason : Need → Type 0) (p q : NumberedPages) (a : Answer)
-          → (let c = came string_calls p (asked_on who regs was.files line.input p) in IsTurn IsReason (byte_changed (key_in was.files)) (parts jobs was.files p) (parts jobs was.files c.pages) (parts (jobs_with jobs t files left) files q) a c.end)
-          → TurnedSo (key_in was.files) (parts_in (rest_of was) p) (parts_in (rest_of now) q) who regs number a
+          → (let c = came string_calls p (asked_on who regs was.files line.input p) in IsTurn IsReason (byte_changed (key_of was.files)) (parts jobs was.files p) (parts jobs was.files c.pages) (parts (jobs_with jobs t files left) files q) a c.end)
+          → TurnedSo (key_of was.files) (parts_in (rest_of was) p) (parts_in (rest_of now) q) who regs number a
       string_turned unbyted strings IsReason p q a comes =
-          rows_turned string_calls p q a (λ went. strings_went (key_in was.files) (parts_in (rest_of was) p) who regs number printless unforked unposted untimed unmapped unfiled unopened unbyted strings (told now q) a went) IsReason comes
+          rows_turned string_calls p q a (λ went. strings_went (key_of was.files) (parts_in (rest_of was) p) who regs number printless unforked unposted untimed unmapped unfiled unopened unbyted strings (told now q) a went) IsReason comes

@@ -29,14 +29,14 @@ use Rattle.plain_model.specs.StringCalls.{string_calls}
 use Rattle.plain_model.specs.Forks.{fork_in}
 use Rattle.plain_model.specs.Trees.{PlainTree, changed, with_body}
 use Rattle.plain_model.proofs.Calling.{MakesNone, bytes_behind, clock_makes_none, file_makes_none, filed_of, forks_behind, jfns_behind, jobs_behind, nothing_behind, pages_behind, print_makes_none, sleeps_behind, with_filed}
-use Rattle.call_turns.specs.Answers.{FitsAnswer, IsDone, IsTurn, Went, answer_of}
+use Rattle.call_turns.specs.Answers.{FitsAnswer, IsDone, IsTurn, Went, answer_of, HasRegs}
 use Rattle.call_turns.specs.Turns.{IsOut}
 use Rattle.fork_tree.specs.Changes.{body_in, with_body_at}
 use Rattle.fork_tree.specs.Trees.{IsTree}
 use Rattle.fork_tree.proofs.Kept.{changed_tree}
 use Rattle.fork_tree.proofs.Slots.{get_put, in_found, in_tells, some_of}
-use Rattle.fork_calls.specs.Limits.{AreWithin, IsBody}
-use Rattle.fork_calls.specs.Turning.{HasRegs, parts}
+use Rattle.job_forks.specs.Limits.{AreWithin, IsBody}
+use Rattle.job_forks.specs.Holding.{parts}
 use Rattle.monitor_calls.specs.ForkUnit.{TurnedSo, answered, answered_turn, out_in, put_back}
 
 -- what holds of the body of the fork in a slot

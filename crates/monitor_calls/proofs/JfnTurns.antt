@@ -18,7 +18,8 @@ use Rattle.call_turns.specs.declared.answer.Answer.{Answer}
 use Rattle.call_turns.specs.Answers.{IsTurn}
 use Rattle.file_tables.specs.declared.tables.FileTables.{FileTables}
 use Rattle.file_tables.specs.Tables.{files_of, open_of}
-use Rattle.file_calls.specs.Asking.{asked_of, key_in, names_of, parts}
+use Rattle.file_calls.specs.Asking.{asked_of, names_of, parts}
+use Rattle.file_tables.specs.Keys.{key_of}
 use Rattle.monitor_calls.specs.declared.job.Job.{Job}
 use Rattle.monitor_calls.specs.ForkUnit.{Tables, TurnedSo, parts_in, rest_of}
 use Rattle.monitor_calls.specs.Jobs.{AreUnheld, job_at, jobs_of}
@@ -42,11 +43,11 @@ module _ (was : Tables) (who : ForkName) (regs : Regs) (number : ℕ) (j : Job) 
 
   module _ (printless : is_among print_calls number ≡ false) (unforked : is_among fork_calls number ≡ false) (unposted : is_among interrupt_calls number ≡ false) (untimed : is_among clock_calls number ≡ false) (unmapped : is_among map_calls number ≡ false) (unfiled : is_among file_calls number ≡ false) (jfns : is_among jfn_calls number ≡ true) where
     pub jfn_turned : (IsReason : Need → Type 0) (files : FileTables) (p q : NumberedPages) (a : Answer)
-        → (let c = came p (asked_of who regs j.user was.files) in IsTurn IsReason (file_changed (key_in was.files)) (parts jobs was.files p) (parts jobs was.files c.pages) (parts jobs files q) a c.end)
-        → TurnedSo (key_in was.files) (parts_in (rest_of was) p) (parts_in (rest_of (record was { files = files })) q) who regs number a
+        → (let c = came p (asked_of who regs j.user was.files) in IsTurn IsReason (file_changed (key_of was.files)) (parts jobs was.files p) (parts jobs was.files c.pages) (parts jobs files q) a c.end)
+        → TurnedSo (key_of was.files) (parts_in (rest_of was) p) (parts_in (rest_of (record was { files = files })) q) who regs number a
     jfn_turned IsReason files p q a comes =
         let v = parts_in (rest_of was) p in
-        let as_told = subst (λ (f : FileTables → NumberedPages → FileParts nat_cmp). let c = came p (asked_of who regs j.user was.files) in IsTurn IsReason (file_changed (key_in was.files)) (f was.files p) (f was.files c.pages) (f files q) a c.end) told_are comes in
-        let as_asked = subst (λ (b : JfnAsked). let c = came p b in IsTurn IsReason (file_changed (key_in was.files)) (told was.files p) (told was.files c.pages) (told files q) a c.end) (sym (asks_are was p who regs j there unheld)) as_told in
-        turned_so (key_in was.files) (with_filed v) (filed_of v) (told files q) who regs number a as_asked
-        (λ went. jfns_went (key_in was.files) v who regs number printless unforked unposted untimed unmapped unfiled jfns (told files q) a went)
+        let as_told = subst (λ (f : FileTables → NumberedPages → FileParts nat_cmp). let c = came p (asked_of who regs j.user was.files) in IsTurn IsReason (file_changed (key_of was.files)) (f was.files p) (f was.files c.pages) (f files q) a c.end) told_are comes in
+        let as_asked = subst (λ (b : JfnAsked). let c = came p b in IsTurn IsReason (file_changed (key_of was.files)) (told was.files p) (told was.files c.pages) (told files q) a c.end) (sym (asks_are was p who regs j there unheld)) as_told in
+        turned_so (key_of was.files) (with_filed v) (filed_of v) (told files q) who regs number a as_asked
+        (λ went. jfns_went (key_of was.files) v who regs number printless unforked unposted untimed unmapped unfiled jfns (told files q) a went)

@@ -16,7 +16,7 @@ use Rattle.plain_model.specs.declared.interrupt.Delivery.{Delivery}
 use Rattle.plain_model.specs.Inspections.{delivered, interrupted_word}
 use Rattle.plain_model.specs.Interrupts.{is_panic, listens, pended, posted, woken}
 use Rattle.plain_units.specs.Steps.{is_accumulator}
-use Rattle.fork_calls.specs.Turning.{HasRegs}
+use Rattle.call_turns.specs.Answers.{HasRegs}
 use Rattle.ka10_deeds.specs.declared.done.Post.{Post}
 use Rattle.ka10_deeds.specs.declared.done.Post.TheVariants.{Nothing, Overflow, Pushdown}
 use Rattle.ka10_deeds.specs.Done.{channel_of}

@@ -11,10 +11,10 @@ use Rattle.plain_model.specs.Trees.{PlainTree, with_body}
 use Rattle.fork_tree.specs.Trees.{IsTree, Lives}
 use Rattle.fork_tree.proofs.Kept.{changed_tree, name_unused}
 use Rattle.fork_tree.proofs.Slots.{cases_name, get_put, get_put_other, held_lives}
-use Rattle.fork_calls.specs.Holding.{CallLeaves, CameFrom, ComeOrNew, Holds, SamePlaces}
-use Rattle.fork_calls.specs.Limits.{IsBody}
-use Rattle.fork_calls.proofs.Holdings.{holds_same, holds_still}
-use Rattle.fork_calls.proofs.Places.{came_itself}
+use Rattle.job_forks.specs.Holding.{CallLeaves, CameFrom, ComeOrNew, Holds, SamePlaces}
+use Rattle.job_forks.specs.Limits.{IsBody}
+use Rattle.job_forks.proofs.Holdings.{holds_same, holds_still}
+use Rattle.job_forks.proofs.Places.{came_itself}
 use Rattle.monitor_calls.specs.ForkUnit.{CameOn, ComeOn, Kept, LeavesForks, put_back}
 use Rattle.monitor_calls.specs.Writing.{Makes, most_makings}
 use Rattle.monitor_calls.proofs.Keeping.{kept_body, more_keeps}

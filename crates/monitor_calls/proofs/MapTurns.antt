@@ -23,11 +23,11 @@ use Rattle.call_turns.specs.declared.answer.Answer.{Answer}
 use Rattle.call_turns.specs.declared.answer.Answer.TheVariants as answer
 use Rattle.call_turns.specs.Answers.{IsTurn}
 use Rattle.file_tables.specs.Tables.{open_of}
-use Rattle.file_calls.specs.Asking.{key_in}
-use Rattle.pmap_calls.specs.Asking.{asked, seen_in}
-use Rattle.pmap_calls.specs.Making.{MakesAtMost, MakesIn}
+use Rattle.file_tables.specs.Keys.{key_of, seen_in}
+use Rattle.pmap_calls.specs.Asking.{asked}
+use Rattle.call_turns.specs.Making.{MakesAtMost, MakesIn}
 use Rattle.ka10_unit.specs.Carrying.{Grows}
-use Rattle.fork_calls.specs.Holding.{MakesPages}
+use Rattle.job_forks.specs.Holding.{MakesPages}
 use Rattle.monitor_calls.specs.declared.job.Job.{Job}
 use Rattle.monitor_calls.specs.declared.typing.Typing.{Typing}
 use Rattle.monitor_calls.specs.ForkUnit.{Tables, TurnedSo, parts_in, rest_of}
@@ -56,13 +56,13 @@ module _ (was : Tables) (who : ForkName) (regs : Regs) (number : ℕ) (unheld : 
 
   module _ (printless : is_among print_calls number ≡ false) (unforked : is_among fork_calls number ≡ false) (unposted : is_among interrupt_calls number ≡ false) (untimed : is_among clock_calls number ≡ false) (maps : is_among map_calls number ≡ true) where
     pub map_turned : (IsReason : Need → Type 0) (p q : NumberedPages) (a : Answer)
-        → (let c = came p (asked who regs was.tree was.files) in IsTurn IsReason (map_changed (key_in was.files)) p c.pages q a c.end)
-        → TurnedSo (key_in was.files) (parts_in (rest_of was) p) (parts_in (rest_of was) q) who regs number a
+        → (let c = came p (asked who regs was.tree was.files) in IsTurn IsReason (map_changed (key_of was.files)) p c.pages q a c.end)
+        → TurnedSo (key_of was.files) (parts_in (rest_of was) p) (parts_in (rest_of was) q) who regs number a
     map_turned IsReason p q a comes =
         let v = parts_in (rest_of was) p in
-        let as_asked = subst (λ (b : MapAsked). let c = came p b in IsTurn IsReason (map_changed (key_in was.files)) p c.pages q a c.end) (sym (maps_asked p)) comes in
-        turned_so (key_in was.files) (λ (x : NumberedPages). record v { pages = x }) p q who regs number a as_asked
-        (λ went. maps_went (key_in was.files) v who regs number printless unforked unposted untimed maps q a went)
+        let as_asked = subst (λ (b : MapAsked). let c = came p b in IsTurn IsReason (map_changed (key_of was.files)) p c.pages q a c.end) (sym (maps_asked p)) comes in
+        turned_so (key_of was.files) (λ (x : NumberedPages). record v { pages = x }) p q who regs number a as_asked
+        (λ went. maps_went (key_of was.files) v who regs number printless unforked unposted untimed maps q a went)
 
 module _ {P : Type 0} (means : PagesMeaning P) (t : Tty) (old new : P) where
   -- what it makes is no more than the words of a call may

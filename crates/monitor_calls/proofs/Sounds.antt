@@ -14,8 +14,8 @@ use Rattle.plain_model.specs.Trees.{changed, PlainTree, with_changed_of}
 use Rattle.fork_tree.specs.Trees.{IsTree, Lives}
 use Rattle.fork_tree.proofs.Kept.{changed_tree}
 use Rattle.fork_tree.proofs.Slots.{cases_name, get_put, get_put_other, held_lives}
-use Rattle.fork_calls.specs.Holding.{SamePlaces}
-use Rattle.fork_calls.proofs.Holdings.{holds_same, holds_still}
+use Rattle.job_forks.specs.Holding.{SamePlaces}
+use Rattle.job_forks.proofs.Holdings.{holds_same, holds_still}
 use Rattle.monitor_calls.specs.declared.job.Job.{Job}
 use Rattle.monitor_calls.specs.declared.typing.Typing.{Typing}
 use Rattle.monitor_calls.specs.Jobs.{job_at}

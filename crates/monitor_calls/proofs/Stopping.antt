@@ -17,11 +17,11 @@ use Rattle.plain_model.proofs.ForkMaps.{put_itself}
 use Rattle.ka10_spots.specs.Once.{After, in_a_row}
 use Rattle.fork_tree.specs.Trees.{IsTree, Lives}
 use Rattle.fork_tree.proofs.Slots.{get_put}
-use Rattle.fork_calls.specs.Holding.{Holds, MakesPages}
-use Rattle.fork_calls.proofs.Branch.{made_on}
+use Rattle.job_forks.specs.Holding.{Holds, MakesPages}
+use Rattle.job_forks.proofs.Branch.{made_on}
 use Rattle.file_tables.specs.declared.tables.FileTables.{FileTables}
 use Rattle.file_tables.specs.Tables.{open_of}
-use Rattle.file_calls.specs.Asking.{key_in}
+use Rattle.file_tables.specs.Keys.{key_of}
 use Rattle.monitor_calls.specs.Limits.{unit_frames}
 use Rattle.monitor_calls.specs.Jobs.{AreUnheld}
 use Rattle.monitor_calls.specs.declared.typing.Typing.{Typing}
@@ -98,8 +98,8 @@ module _ {P : Type 0} (means : PagesMeaning P) (old new : P) (was : Tables) (tre
     told = λ d fits.
         let t = s.told d fits in (
           t.0,
-          subst (λ (x : Rest). RanUnits (key_in was.files) (rest_of was) f (means.plain old d) count (record { rest = x; fork = g; pages = means.plain new d; shown = nothing })) (λ i. rest_of (with_tree was (sym t.1 i) (sym s.same i) (sym s.same_typed i)))
-              (up_to_some (key_in was.files) (rest_of was) f g (means.plain old d) (means.plain new d) count some t.2),
+          subst (λ (x : Rest). RanUnits (key_of was.files) (rest_of was) f (means.plain old d) count (record { rest = x; fork = g; pages = means.plain new d; shown = nothing })) (λ i. rest_of (with_tree was (sym t.1 i) (sym s.same i) (sym s.same_typed i)))
+              (up_to_some (key_of was.files) (rest_of was) f g (means.plain old d) (means.plain new d) count some t.2),
         );
     numbers = λ d fits. dir_stays was.files files (ap (λ (t : FileTables). t.dir) s.same);
     keeps = s.keeps;

@@ -40,9 +40,9 @@ use Rattle.ka10_spots.specs.Once.{After, in_a_row}
 use Rattle.fork_tree.specs.Trees.{Lives}
 use Rattle.file_tables.specs.declared.tables.FileTables.{FileTables}
 use Rattle.file_tables.specs.Tables.{files_of, open_of}
-use Rattle.file_calls.specs.Asking.{key_in}
+use Rattle.file_tables.specs.Keys.{key_of}
 use Rattle.page_contracts.specs.declared.answers.Need.{Need}
-use Rattle.fork_calls.specs.Holding.{CallLeaves, Holds, IsNew, MakesPages, TopsStay}
+use Rattle.job_forks.specs.Holding.{CallLeaves, Holds, IsNew, MakesPages, TopsStay}
 use Rattle.monitor_calls.specs.declared.job.Job.{Job}
 use Rattle.monitor_calls.specs.declared.typing.Typing.{Typing}
 use Rattle.monitor_calls.specs.Jobs.{AreUnheld, job_at, jobs_of}
@@ -300,7 +300,7 @@ TurnedSo key old new who regs number a = call_turned key old who regs number ≡
 -- a turn of a call went so, over each drum that fits
 pub record Turns {P : Type 0} (means : PagesMeaning P) (old new : P) (was is : Tables) (who : ForkName) (regs : Regs) (number : ℕ) (a : Answer) : Type 0 where
   pub fits : (d : DrumWords) → means.fits old d → means.fits new d
-  pub told : (d : DrumWords) → means.fits old d → TurnedSo (key_in was.files) (parts_in (rest_of was) (means.plain old d)) (parts_in (rest_of is) (means.plain new d)) who regs number a
+  pub told : (d : DrumWords) → means.fits old d → TurnedSo (key_of was.files) (parts_in (rest_of was) (means.plain old d)) (parts_in (rest_of is) (means.plain new d)) who regs number a
   pub numbers : (d : DrumWords) → means.fits old d → NumbersStay was.files.dir is.files.dir
 
 -- a fork that lives stands where one stood that lived under its name, has run so many units more at most, and keeps its limits
@@ -329,7 +329,7 @@ pub record Called {P : Type 0} (means : PagesMeaning P) (old new : P) (was is : 
   pub after : Fork
   pub there : Lives is.tree.forks after
   pub told : (d : DrumWords) → means.fits old d
-      → means.fits new d × (called_behind (key_in was.files) (rest_of was) f (means.plain old d) number ≡ record { rest = rest_of is; fork = after; pages = means.plain new d; shown = shown })
+      → means.fits new d × (called_behind (key_of was.files) (rest_of was) f (means.plain old d) number ≡ record { rest = rest_of is; fork = after; pages = means.plain new d; shown = shown })
   pub numbers : (d : DrumWords) → means.fits old d → NumbersStay was.files.dir is.files.dir
   pub keeps : Kept f after 1
   pub leaves : LeavesForks means old new was.tree is.tree f 1
@@ -362,7 +362,7 @@ pub record UnitsRan {P : Type 0} (means : PagesMeaning P) (old new : P) (was is 
   pub after : Fork
   pub there : (d : DrumWords) → means.fits old d → Lives is.tree.forks after
   pub told : (d : DrumWords) → means.fits old d
-      → means.fits new d × RanUnits (key_in was.files) (rest_of was) f (means.plain old d) units.count (record { rest = rest_of is; fork = after; pages = means.plain new d; shown = units.shown })
+      → means.fits new d × RanUnits (key_of was.files) (rest_of was) f (means.plain old d) units.count (record { rest = rest_of is; fork = after; pages = means.plain new d; shown = units.shown })
   pub numbers : (d : DrumWords) → means.fits old d → NumbersStay was.files.dir is.files.dir
   pub keeps : Kept f after units.count
   pub leaves : LeavesForks means old new was.tree is.tree f units.count

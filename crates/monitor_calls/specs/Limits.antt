@@ -3,7 +3,7 @@ use Rattle.std.specs.Prelude.{◌≡◌, ℕ}
 use Rattle.plain_model.specs.declared.fork.Body.{Body}
 use Rattle.script_texts.specs.declared.status.ForkStatus.TheVariants.{Run}
 use Rattle.string_io.specs.Turning.{string_frames}
-pub use Rattle.fork_calls.specs.Limits.{FitsForced, IsBody}
+pub use Rattle.job_forks.specs.Limits.{FitsForced, IsBody}
 
 -- how many frames a unit may want: a turn of a call on strings wants most
 abbrev pub unit_frames : ℕ

@@ -7,8 +7,8 @@ use Rattle.plain_model.specs.declared.fork.Fork.{Fork}
 use Rattle.page_contracts.specs.Pages.{PagesMeaning}
 use Rattle.plain_model.specs.Trees.{PlainTree}
 use Rattle.fork_tree.specs.Trees.{Lives}
-use Rattle.fork_calls.specs.Holding.{Holds}
-use Rattle.fork_calls.specs.Limits.{AreWithin}
+use Rattle.job_forks.specs.Holding.{Holds}
+use Rattle.job_forks.specs.Limits.{AreWithin}
 use Rattle.monitor_calls.specs.declared.job.Job.{Job}
 use Rattle.monitor_calls.specs.Jobs.{job_at}
 

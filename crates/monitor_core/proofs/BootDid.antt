@@ -12,14 +12,14 @@ use Rattle.plain_model.specs.State.{opening}
 use Rattle.plain_pages.specs.PlainPages.{opening_pages}
 use Rattle.page_contracts.specs.DrumWords.{DrumWords}
 use Rattle.plain_model.specs.declared.fork.Fork.{Fork}
-use Rattle.machine_names.specs.Orders.{fork_cmp}
+use Rattle.machine_names.specs.Orders.{fork_cmp, file_page_cmp, name_cmp}
 use Rattle.page_contracts.specs.Pages.{PagesMeaning}
 use Rattle.plain_model.specs.Forks.{fork_in}
 use Rattle.plain_model.specs.Trees.{PlainTree}
 use Rattle.fork_tree.specs.Trees.{Lives, no_forks}
 use Rattle.fork_tree.proofs.Kept.{none_tree}
 use Rattle.fork_tree.proofs.Slots.{in_none}
-use Rattle.fork_calls.specs.Holding.{Holds}
+use Rattle.job_forks.specs.Holding.{Holds}
 use Rattle.monitor_core.specs.declared.panel.Panel.{Panel}
 use Rattle.monitor_calls.specs.declared.job.Job.{Job}
 use Rattle.monitor_core.specs.declared.system.System.{System}
@@ -29,7 +29,6 @@ use Rattle.monitor_calls.specs.Sound.{AreSound}
 use Rattle.monitor_calls.specs.Typings.{new_typing, nothing_typed, typing_at}
 use Rattle.monitor_core.specs.Systems.{named, state_of, FitsPages, IsWithin}
 use Rattle.plain_files.specs.NamedFiles.{AreFiled}
-use Rattle.machine_names.specs.Orders.{file_page_cmp, name_cmp}
 use Rattle.file_tables.specs.declared.tables.FileTables.{FileTables}
 use Rattle.monitor_core.proofs.NamedPages.{none_named}
 use Rattle.file_tables.specs.Tables.{files_of, no_jobs as no_jfns, open_of}

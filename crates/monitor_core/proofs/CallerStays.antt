@@ -39,7 +39,7 @@ use Rattle.fork_tree.proofs.Branches.{goes, gone_or_left}
 use Rattle.fork_tree.proofs.Kept.{name_unused}
 use Rattle.fork_tree.proofs.Killing.{killed_branch}
 use Rattle.fork_tree.proofs.Leaves.{inferior_lives}
-use Rattle.fork_calls.proofs.Branch.{below_younger}
+use Rattle.job_forks.proofs.Branch.{below_younger}
 
 module _ (f : Fork) where
   -- a fork of its name stands in its place, among forks that are under their own names

@@ -1,7 +1,6 @@
 -- A character by who reads its terminal.
-use Rattle.std.proofs.Common.{◌≡◌, ◌≢◌, ℕ, false, cond, List, None, ◌==◌, refl, ◌∙◌, ap, subst}
+use Rattle.std.proofs.Common.{◌≡◌, ◌≢◌, ℕ, false, cond, List, None, ◌==◌, refl, ◌∙◌, ap, subst, inl, inr}
 use Rattle.std.proofs.lemmas.Bool.Decides.{eqb_tells}
-use Rattle.std.proofs.Common.{inl, inr}
 use Rattle.machine_names.specs.declared.character.TheConstants.{LINE_END}
 use Rattle.machine_names.specs.declared.names.Tty.{Tty}
 use Rattle.plain_typing.specs.Characters.{read_as}
@@ -17,7 +16,7 @@ use Rattle.monitor_core.specs.declared.system.System.{System}
 use Rattle.monitor_core.specs.Effects.{Has, HasJobAt, job_in}
 use Rattle.monitor_core.specs.Systems.{state_of}
 use Rattle.monitor_core.proofs.HasDone.{has_as, has_left}
-use Rattle.fork_calls.proofs.Places.{came_itself}
+use Rattle.job_forks.proofs.Places.{came_itself}
 use Rattle.monitor_calls.specs.Jobs.{job_at}
 use Rattle.monitor_core.specs.Echoes.{echo_items}
 use Rattle.monitor_core.specs.declared.echo.Echo.TheVariants.{Nothing}

@@ -16,11 +16,11 @@ use Rattle.plain_model.specs.State.{PlainJob, PlainState}
 use Rattle.plain_model.specs.Trees.{PlainTree, changed, changed_in, readers_woken, unread, with_changed_of, with_mark, without_read}
 use Rattle.plain_model.specs.Unit.{Effect}
 use Rattle.file_tables.specs.Tables.{files_of, open_of}
-use Rattle.fork_calls.proofs.Places.{IsMild, Keep, came_itself, changed_keeps, keep_itself, keep_on}
+use Rattle.job_forks.proofs.Places.{IsMild, Keep, came_itself, changed_keeps, keep_itself, keep_on}
 use Rattle.fork_tree.specs.Trees.{IsTree}
 use Rattle.plain_model.proofs.ForkMaps.{AreOwn, slot_tells}
 use Rattle.monitor_core.proofs.HasDone.{change_keeps, has_left}
-use Rattle.fork_calls.specs.Holding.{ComeFrom}
+use Rattle.job_forks.specs.Holding.{ComeFrom}
 use Rattle.plain_typing.specs.declared.typed.TheConstants.{MOST_STORED}
 use Rattle.plain_model.specs.TypeEvents.{interrupted, line_typed, stored, typed_so}
 use Rattle.plain_typing.specs.declared.typed.Typed.{Typed}
@@ -29,7 +29,7 @@ use Rattle.script_texts.specs.declared.event.Item.{Item}
 use Rattle.monitor_calls.specs.declared.typing.Typing.{Typing}
 use Rattle.monitor_core.specs.declared.echo.Echo.{Echo}
 use Rattle.monitor_core.specs.declared.echo.Echo.TheVariants.{Shows, Stops, Wakes}
-use Rattle.monitor_core.specs.Effects.{Has, stopped_tree}
+use Rattle.monitor_core.specs.Effects.{Has, stopped_tree, HasJobAt, job_in}
 use Rattle.machine_names.specs.declared.names.ForkName.{ForkName}
 use Rattle.machine_names.specs.declared.names.TheConstants.{MOST_FORKS}
 use Rattle.std.specs.List.{range_with_len}
@@ -41,7 +41,6 @@ use Rattle.monitor_core.specs.declared.echo.Told.TheVariants.{Nothing, Refused}
 use Rattle.monitor_calls.specs.declared.job.Job.{Job}
 use Rattle.monitor_core.specs.declared.system.System.{System}
 use Rattle.monitor_core.specs.Echoes.{echo_items, told_items}
-use Rattle.monitor_core.specs.Effects.{HasJobAt, job_in}
 use Rattle.monitor_calls.specs.Jobs.{jobs_of}
 use Rattle.monitor_calls.specs.Limits.{FitsForced}
 use Rattle.monitor_core.specs.Systems.{named, state_of}

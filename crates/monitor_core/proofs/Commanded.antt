@@ -6,8 +6,8 @@ use Rattle.plain_typing.specs.declared.command.Command.TheVariants as command
 use Rattle.plain_model.specs.State.{PlainState}
 use Rattle.plain_model.specs.Unit.{Effect}
 use Rattle.plain_model.specs.Commands.{commanded, delete_file, go_on, logged_out, run_program, start_again}
-use Rattle.fork_calls.proofs.Places.{came_itself}
-use Rattle.fork_calls.specs.Holding.{ComeFrom}
+use Rattle.job_forks.proofs.Places.{came_itself}
+use Rattle.job_forks.specs.Holding.{ComeFrom}
 use Rattle.plain_model.specs.Trees.{PlainTree}
 use Rattle.monitor_core.specs.declared.echo.Complaint.TheVariants as complaint
 use Rattle.monitor_core.specs.declared.echo.Told.{Told}

@@ -21,9 +21,9 @@ use Rattle.plain_model.specs.FileCalls.{times_held}
 use Rattle.plain_model.specs.Unit.{Effect}
 use Rattle.plain_model.proofs.Keyed.{Others, keyed_by, without_keyed, without_refiled}
 use Rattle.ka10_unit.specs.Carrying.{Grows}
-use Rattle.fork_calls.specs.Holding.{ComeFrom}
+use Rattle.job_forks.specs.Holding.{ComeFrom}
 use Rattle.plain_model.specs.Trees.{PlainTree}
-use Rattle.fork_calls.proofs.Places.{came_itself}
+use Rattle.job_forks.proofs.Places.{came_itself}
 use Rattle.file_tables.specs.Tables.{IsThere, OpenStay, files_of, open_of}
 use Rattle.file_tables.proofs.Names.{name_apart, name_total, named, not_both, numbers_gone}
 use Rattle.monitor_calls.specs.ForkUnit.{NumbersStay}

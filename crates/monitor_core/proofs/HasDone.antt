@@ -18,10 +18,10 @@ use Rattle.plain_model.specs.Trees.{PlainTree, with_changed_of}
 use Rattle.plain_model.specs.Unit.{Effect}
 use Rattle.fork_tree.specs.Trees.{IsTree}
 use Rattle.fork_tree.proofs.Slots.{held_lives}
-use Rattle.fork_calls.specs.Holding.{ComeFrom, Holds, TopsStay}
-use Rattle.fork_calls.proofs.Holdings.{holds_same, holds_still}
-use Rattle.fork_calls.proofs.Places.{IsMild, Keep, changed_keeps}
-use Rattle.fork_calls.proofs.Tops.{same_tops as still_tops}
+use Rattle.job_forks.specs.Holding.{ComeFrom, Holds, TopsStay}
+use Rattle.job_forks.proofs.Holdings.{holds_same, holds_still}
+use Rattle.job_forks.proofs.Places.{IsMild, Keep, changed_keeps}
+use Rattle.job_forks.proofs.Tops.{same_tops as still_tops}
 use Rattle.job_commands.specs.Leaving.{LogoutLeaves}
 use Rattle.monitor_core.specs.declared.panel.Panel.{Panel}
 use Rattle.monitor_calls.specs.declared.job.Job.{Job}

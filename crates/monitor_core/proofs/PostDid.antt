@@ -19,7 +19,7 @@ use Rattle.plain_model.specs.Trees.{PlainTree, end_told, tree_of}
 use Rattle.plain_model.specs.TypeEvents.{channel_posted, posted_at, typed_so}
 use Rattle.plain_model.specs.Unit.{Effect, printed, stop_text, stopped}
 use Rattle.file_tables.specs.Tables.{files_of, open_of}
-use Rattle.fork_calls.proofs.Places.{Keep, came_itself, changed_keeps, keep_on}
+use Rattle.job_forks.proofs.Places.{Keep, came_itself, changed_keeps, keep_on}
 use Rattle.fork_tree.specs.Trees.{IsTree, Lives}
 use Rattle.fork_tree.proofs.Posted.{alone}
 use Rattle.script_texts.specs.declared.event.Item.{Item}

@@ -28,8 +28,7 @@ use Rattle.plain_model.specs.InterruptCalls.{living_codes}
 use Rattle.plain_model.specs.ForkCalls.{ForkParts, killed}
 use Rattle.plain_model.specs.State.{PlainState}
 use Rattle.plain_model.specs.Unit.{Effect}
-use Rattle.fork_calls.specs.Holding.{MakesPages}
-use Rattle.fork_calls.specs.Turning.{parts}
+use Rattle.job_forks.specs.Holding.{MakesPages, parts}
 use Rattle.fork_tree.proofs.Slots.{some_of}
 use Rattle.file_tables.specs.Tables.{FilesStay, IsThere, files_of, open_of}
 use Rattle.file_tables.proofs.Pages.{page_at as page_there}

@@ -10,8 +10,8 @@ use Rattle.script_texts.specs.declared.status.WaitOn.TheVariants as on
 use Rattle.plain_model.specs.Forks.{ForkMap, fork_in}
 use Rattle.plain_model.specs.Trees.{awoken, awoken_at, changed, changed_in, job_awoken, sleepers_awoken, without_sleep}
 use Rattle.plain_model.proofs.ForkMaps.{AreOwn, slot_tells}
-use Rattle.fork_calls.specs.Limits.{FitsForced}
-use Rattle.fork_calls.proofs.Places.{IsMild, Keep, changed_keeps, keep_itself, keep_on}
+use Rattle.job_forks.specs.Limits.{FitsForced}
+use Rattle.job_forks.proofs.Places.{IsMild, Keep, changed_keeps, keep_itself, keep_on}
 
 -- a fork that sleeps no more was forced by no channel
 awake_fits : (clock : ℕ) (s : ForkStatus) → FitsForced s → FitsForced (without_sleep clock s)

@@ -7,7 +7,7 @@ use Rattle.plain_model.specs.Interrupts.{posted}
 use Rattle.plain_model.specs.Trees.{end_told, waiters_woken}
 use Rattle.plain_model.proofs.ForkMaps.{AreOwn, superior_tells}
 use Rattle.plain_model.proofs.Posted.{posted_same}
-use Rattle.fork_calls.proofs.Places.{IsMild, Keep, changed_keeps, keep_on, waiters_keep}
+use Rattle.job_forks.proofs.Places.{IsMild, Keep, changed_keeps, keep_on, waiters_keep}
 use Rattle.monitor_calls.proofs.Keeping.{posted_body, posted_units}
 
 -- a channel that is posted leaves a fork's place and its units, and its limits

@@ -21,10 +21,10 @@ use Rattle.plain_model.specs.Trees.{PlainTree, next_name}
 use Rattle.plain_model.proofs.ForkMaps.{AreOwn}
 use Rattle.fork_tree.specs.Trees.{IsTree, Lives}
 use Rattle.fork_tree.proofs.Slots.{some_of}
-use Rattle.fork_calls.specs.Holding.{IsNew}
-use Rattle.fork_calls.specs.Limits.{AreWithin}
-use Rattle.fork_calls.proofs.Holdings.{holds_same}
-use Rattle.fork_calls.proofs.Places.{Keep, keep_itself}
+use Rattle.job_forks.specs.Holding.{IsNew}
+use Rattle.job_forks.specs.Limits.{AreWithin}
+use Rattle.job_forks.proofs.Holdings.{holds_same}
+use Rattle.job_forks.proofs.Places.{Keep, keep_itself}
 use Rattle.monitor_core.specs.declared.panel.Panel.{Panel}
 use Rattle.monitor_calls.specs.Limits.{unit_frames}
 use Rattle.monitor_calls.specs.declared.job.Job.{Job}
@@ -44,7 +44,7 @@ use Rattle.monitor_calls.specs.Sound.{AreSound}
 use Rattle.plain_files.specs.NamedFiles.{AreFiled, pages_named}
 use Rattle.plain_files.specs.Sizes.{file_at}
 use Rattle.file_tables.specs.declared.tables.FileTables.{FileTables}
-use Rattle.file_calls.specs.Asking.{key_in}
+use Rattle.file_tables.specs.Keys.{key_of}
 use Rattle.plain_files.specs.OpenFiles.{OpenFiles}
 use Rattle.file_tables.specs.Tables.{files_of, open_of}
 use Rattle.monitor_core.specs.Systems.{DidAll, FitsPages, IsWithin, Waits, named, state_of}
@@ -220,11 +220,11 @@ module _ {P : Type 0} {b : _} (m : System P b) (f : Fork) (trees : IsTree m.tree
         abbrev filed : NamedFiles
         filed = pages_named m.files.dir (b.means.plain m.pages d).files
 
-        can_run : Runs (key_in m.files) filed (state_of m d) f (b.means.plain m.pages d)
+        can_run : Runs (key_of m.files) filed (state_of m d) f (b.means.plain m.pages d)
         can_run = record { trees = trees; fork = lives; pages = refl; kept = keyed_named m.files.dir m.files.sound.numbers (file_at m.files.lengths) (b.means.plain m.pages d).files fits.filed; held = held_there was (b.means.plain m.pages d); runs = runs; thawed = thawed }
 
-        entries : Entries (key_in m.files) filed (state_of m d) f (b.means.plain m.pages d) can_run units.count f.body.regs.pc last
-        entries = units_as (key_in m.files) filed (state_of m d) f (b.means.plain m.pages d) can_run units.count last quiet (ran.told d fits.pages).1
+        entries : Entries (key_of m.files) filed (state_of m d) f (b.means.plain m.pages d) can_run units.count f.body.regs.pc last
+        entries = units_as (key_of m.files) filed (state_of m d) f (b.means.plain m.pages d) can_run units.count last quiet (ran.told d fits.pages).1
 
         -- the pages of files that are left, under names
         left_named : entries.left ≡ pages_named files.dir (b.means.plain q d).files

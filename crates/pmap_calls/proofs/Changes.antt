@@ -40,7 +40,8 @@ use Rattle.call_turns.proofs.Looks.{absent_map, needed_is, told_is}
 use Rattle.plain_model.specs.MapCalls.{map_changed}
 use Rattle.page_contracts.specs.declared.answers.Need.{Need}
 use Rattle.page_contracts.specs.declared.answers.Need.TheVariants as need
-use Rattle.pmap_calls.specs.Making.{IsMade, MakesAtMost, MakesIn, change_need}
+use Rattle.pmap_calls.specs.Making.{IsMade, change_need}
+use Rattle.call_turns.specs.Making.{MakesAtMost, MakesIn}
 use Rattle.pmap_calls.specs.Stages.{IsMapChange}
 
 module _ (p : NumberedPages) where
@@ -195,10 +196,6 @@ module _ (key : List ℕ → ℕ) (p q made : NumberedPages) (what : MapChange) 
 
   pub drop_so : (f : FileNo) (name : List ℕ) (page : ℕ) → what ≡ Drop name page → made ≡ p → f.0 ≡ key name → q ≡ filed_by p (file_page f.0 page) None → Changed
   drop_so f name page same none is h = h ∙ drops key p f name page is ∙ ap (map_changed key (Drop name page)) (sym none) ∙ ap (λ w. map_changed key w made) (sym same)
-
--- pages that stay lose nothing
-pub lost_none : {P : Type 0} (means : PagesMeaning P) (s : P) → MayLose means s s
-lost_none means s = loses_nothing (traffic means.store s)
 
 -- an end needs nothing
 pub end_needs : {P : Type 0} (store : StoreMeaning P) (most : ℕ) (s : P) (e : End MapChange) → AnswerNeeds store most s (answer_of e)

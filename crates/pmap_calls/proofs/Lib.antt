@@ -1,4 +1,3 @@
-pub mod Known
 pub mod MapLaws
 pub mod Steps
 pub mod Changes

@@ -27,7 +27,8 @@ use Rattle.call_turns.specs.Turns.{turn_of}
 use Rattle.pmap_calls.specs.declared.naming.PagePlace.{PagePlace}
 use Rattle.pmap_calls.specs.declared.naming.PagePlace.TheVariants.{File}
 use Rattle.pmap_calls.specs.declared.stage.Stage.TheVariants.{Fill, There}
-use Rattle.pmap_calls.specs.Asking.{IsKnown, asked, key_of, place_by}
+use Rattle.file_tables.specs.Keys.{IsKnown, key_of}
+use Rattle.pmap_calls.specs.Asking.{asked, place_by}
 use Rattle.pmap_calls.specs.Paging.{drop_end, map_end, put_end}
 use Rattle.pmap_calls.specs.Stages.{filled, if_there, later, whole}
 

@@ -22,15 +22,15 @@ use Rattle.call_turns.specs.declared.turn.Outcome.{Outcome}
 use Rattle.call_turns.specs.declared.turn.Turn.{Turn as Step}
 use Rattle.call_turns.specs.Answers.{Went, IsTurn}
 use Rattle.call_turns.specs.Granting.{pages_granted}
-use Rattle.call_turns.specs.Needing.{DrivenTo, FirstNeeds, OneTouchNeeds, TurnNeeds}
+use Rattle.call_turns.specs.Needing.{DrivenTo, FirstNeeds, OneTouchNeeds, TurnNeeds, NoSteps}
 use Rattle.call_turns.specs.Numbers.{by_number, numbered_turn}
 use Rattle.call_turns.specs.Telling.{entry_need, looks_need}
 use Rattle.call_turns.proofs.DrivenTurns.{turn_needs}
 use Rattle.call_turns.proofs.Numbered.{comes_same, needs_same}
 use Rattle.pmap_calls.specs.declared.stage.Stage.{Stage}
-use Rattle.pmap_calls.specs.Asking.{key_of, seen_in}
+use Rattle.file_tables.specs.Keys.{key_of, seen_in}
 use Rattle.pmap_calls.specs.Stages.{later, most_asks, whole}
-use Rattle.pmap_calls.specs.Making.{ComesOut, EndNeeds, MapNeeds, NoSteps, change_need}
+use Rattle.pmap_calls.specs.Making.{ComesOut, EndNeeds, MapNeeds, change_need}
 
 -- what an end needs is the same where no map and no entry of one is another
 module _ (scene after : Scene) (p q : NumberedPages) (away : after.map_away ≡ scene.map_away) (maps : q.maps ≡ p.maps) where

@@ -1,39 +1,22 @@
 -- What the calls on maps are asked with, by the tables of files; and the places that words name there.
-use Rattle.std.specs.Prelude.{◌≡◌, ℕ, ◌<◌, List, nat_lt, Some, is_some, Result, Ok, Err}
-use Rattle.std.specs.Option.{unwrap_or}
-use Rattle.std.specs.FinMap as map
-use Rattle.machine_names.specs.declared.names.TheConstants.{SPACE_PAGES, MOST_FILES, FILE_PAGES}
-use Rattle.machine_names.specs.declared.names.FileNo.{FileNo}
+use Rattle.std.specs.Prelude.{◌<◌}
+use Rattle.machine_names.specs.declared.names.TheConstants.{SPACE_PAGES, FILE_PAGES}
 use Rattle.machine_names.specs.declared.names.ForkName.{ForkName}
 use Rattle.machine_names.specs.declared.names.Slot.{Slot}
 use Rattle.machine_names.specs.Bounds.{IsForkName}
-use Rattle.plain_files.specs.NamedFiles.{name_of, number_of, open_file}
+use Rattle.plain_files.specs.NamedFiles.{open_file}
 use Rattle.file_tables.specs.declared.tables.FileTables.{FileTables}
-use Rattle.file_tables.specs.Tables.{IsThere, files_of, jfns_at}
+use Rattle.file_tables.specs.Keys.{IsKnown}
+use Rattle.file_tables.specs.Tables.{jfns_at}
 use Rattle.plain_units.specs.declared.registers.Regs.{Regs}
-use Rattle.plain_model.specs.Calls.{Sight}
 use Rattle.plain_model.specs.MapCalls.{MapAsked, MapPlace, of_file, of_fork}
 use Rattle.plain_model.specs.Trees.{PlainTree}
 use Rattle.pmap_calls.specs.declared.naming.PagePlace.{PagePlace}
 use Rattle.pmap_calls.specs.declared.naming.PagePlace.TheVariants.{Fork, File}
 
--- the number of the file of a name; 0 where there is none
-abbrev pub key_of : FileTables → List ℕ → ℕ
-key_of tables name = unwrap_or (number_of tables.dir name) 0
-
--- what is told of files
-abbrev pub seen_in : FileTables → Sight (List ℕ) ℕ
-seen_in tables = record { file_of = λ name. Some (key_of tables name); is_name = λ name. is_some (map.get (files_of tables) name); has_more = nat_lt (map.len (files_of tables)) MOST_FILES }
-
 -- who calls, with which registers, among which forks, and with the JFNs of which job
 abbrev pub asked : ForkName → Regs → PlainTree → FileTables → MapAsked
 asked who regs tree tables = record { who = who; regs = regs; tree = tree; held = jfns_at tables who.tty.0 }
-
--- a file that is there, which has this number
-pub record IsKnown (tables : FileTables) (f : FileNo) : Type 0 where
-  pub there : IsThere tables f.0
-  pub below : f.0 < MOST_FILES
-  pub number : key_of tables (name_of tables.dir f.0) ≡ f.0
 
 -- a place, by the name of its file
 abbrev pub place_by : FileTables → PagePlace → MapPlace
@@ -55,8 +38,3 @@ places_by tables p = (place_by tables p.0, place_by tables p.1)
 
 abbrev pub ArePlacesIn : FileTables → PagePlace × PagePlace → Type 0
 ArePlacesIn tables p = IsPlaceIn tables p.0 × IsPlaceIn tables p.1
-
--- what was named, as the plain call has it; or the code of an error
-abbrev pub named_by : {A B : Type 0} → (A → B) → Result A ℕ → Result B ℕ
-named_by by (Ok a) = Ok (by a)
-named_by by (Err code) = Err code

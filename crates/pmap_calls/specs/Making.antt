@@ -1,13 +1,11 @@
 -- A change of a call on maps, made on pages of which some may be in no frame.
-use Rattle.std.specs.Prelude.{◌≡◌, ◌≢◌, ℕ, ◌+◌, ◌≤◌, List, Option, None, Some, Result, Ok, Err}
+use Rattle.std.specs.Prelude.{◌≡◌, List, Option, None, Some, Result, Ok, Err}
 use Rattle.page_contracts.specs.declared.answers.Need.{Need}
 use Rattle.call_turns.specs.declared.answer.Answer.{Answer}
-use Rattle.call_turns.specs.declared.answer.Answer.TheVariants as answer
 use Rattle.call_turns.specs.declared.turn.Grant.{Grant}
 use Rattle.plain_model.specs.declared.call.End.{End}
 use Rattle.plain_model.specs.declared.call.End.TheVariants.{Done}
 use Rattle.plain_model.specs.declared.call.MapChange.TheVariants.{Nothing, Unmap, Follow, Narrow, Map, Put, Drop}
-use Rattle.machine_names.specs.declared.names.ForkName.{ForkName}
 use Rattle.plain_model.specs.Calls.{Turn, turn_on}
 use Rattle.plain_model.specs.declared.call.MapChange.{MapChange}
 use Rattle.plain_model.specs.MapCalls.{map_changed}
@@ -15,14 +13,12 @@ use Rattle.page_contracts.specs.DrumWords.{DrumWords}
 use Rattle.plain_pages.specs.PlainPages.{NumberedPages}
 use Rattle.page_contracts.specs.Pages.{Scene, PagesMeaning}
 use Rattle.machine_names.specs.declared.names.Tty.{Tty}
-use Rattle.plain_units.specs.declared.registers.Regs.{Regs}
-use Rattle.plain_units.specs.Steps.{Steps, Ending}
 use Rattle.file_tables.specs.declared.tables.FileTables.{FileTables}
 use Rattle.call_turns.specs.Answers.{IsTurn}
 use Rattle.call_turns.specs.Granting.{pages_granted}
 use Rattle.call_turns.specs.Telling.{entry_need}
-use Rattle.call_turns.specs.Needing.{OneTouchNeeds, TurnNeeds}
-use Rattle.pmap_calls.specs.Asking.{key_of, seen_in}
+use Rattle.call_turns.specs.Needing.{NoSteps, OneTouchNeeds, TurnNeeds}
+use Rattle.file_tables.specs.Keys.{key_of, seen_in}
 
 -- what a change needs: the map of the slot whose entry it sets
 abbrev pub change_need : Scene → NumberedPages → MapChange → Option Need
@@ -38,10 +34,6 @@ change_need scene p (Drop name page) = None
 abbrev pub EndNeeds : Scene → NumberedPages → End MapChange → Need → Type 0
 EndNeeds scene p (Done change regs out post) n = change_need scene p change ≡ Some n
 EndNeeds scene p e n = ⊥
-
--- a call on maps takes no step of its fork
-abbrev pub NoSteps : Scene → NumberedPages → ForkName → Regs → Steps → (Scene → NumberedPages → Ending → Type 0) → Need → Type 0
-NoSteps scene p f regs steps later n = ⊥
 
 -- WHAT A TURN OF A CALL ON MAPS NEEDS FIRST
 abbrev pub MapNeeds : FileTables → Scene → NumberedPages → Turn (List ℕ) MapChange → Need → Type 0
@@ -73,20 +65,3 @@ ComesOut tables scene old new answer t =
 abbrev pub Turns : {P : Type 0} → PagesMeaning P → FileTables → P → P → Answer → Turn (List ℕ) MapChange → Type 0
 Turns means tables old new answer t =
     (d : DrumWords) → means.fits old d → means.fits new d × ComesOut tables (means.scene old) (means.plain old d) (means.plain new d) answer t
-
--- so many pages of an owner were made at most, and no fork
-pub record MakesAtMost {P : Type 0} (means : PagesMeaning P) (owner : Tty) (pages : ℕ) (old new : P) : Type 0 where
-  pub lives : means.lives new ≡ means.lives old
-  pub forks : means.forks_of new ≡ means.forks_of old
-  pub most : means.most new ≡ means.most old
-  pub serial : means.serial new owner ≤ means.serial old owner + pages
-  pub serials : (t : Tty) → t ≢ owner → means.serial new t ≡ means.serial old t
-
--- one at most, and none where something was needed first
-abbrev pub MakesOne : {P A : Type 0} → PagesMeaning P → Tty → P → P → Result A Need → Type 0
-MakesOne means owner old new (Ok done) = MakesAtMost means owner 1 old new
-MakesOne means owner old new (Err n) = MakesAtMost means owner 0 old new
-
-abbrev pub MakesIn : {P : Type 0} → PagesMeaning P → Tty → P → P → Answer → Type 0
-MakesIn means owner old new (answer.Need n) = MakesAtMost means owner 0 old new
-MakesIn means owner old new a = MakesAtMost means owner 1 old new

@@ -7,15 +7,16 @@ ghost use Rattle.plain_model.specs.MapCalls.{access_at as access_at_of, pmap as 
 ghost use Rattle.plain_model.specs.Trees.{PlainTree};
 ghost use Rattle.call_turns.specs.Numbers.{numbered_turn};
 ghost use Rattle.call_turns.specs.Turns.{IsRegs, FitsTurn};
-ghost use Rattle.pmap_calls.specs.Asking.{IsPlaceIn, asked, key_of, place_by};
+ghost use Rattle.pmap_calls.specs.Asking.{IsPlaceIn, asked, place_by};
+ghost use Rattle.file_tables.specs.Keys.{key_of};
 ghost use Rattle.pmap_calls.specs.Stages.{IsMapChange, IsStage, whole};
 
 use crate::access::access_in;
 use crate::naming::{PagePlace, place_named, slot_named};
-use crate::paging::{accumulator, is_counted, pages_left};
+use crate::paging::{is_counted, pages_left};
 use crate::pmap::one_page;
 use crate::stage::Stage;
-use call_turns::{Ask, Turn, returning};
+use call_turns::{Ask, Turn, accumulator, returning};
 use file_tables::FileTables;
 use fork_tree::Tree;
 use machine_names::ForkName;

@@ -9,7 +9,9 @@ ghost use Rattle.plain_files.specs.NamedFiles.{open_file};
 ghost use Rattle.file_tables.specs.Tables.{jfns_at};
 ghost use Rattle.plain_units.specs.declared.registers.Regs.{Regs as ARegs};
 ghost use Rattle.plain_model.specs.MapCalls.{on_page, place_of as place_of_word, slot_of as slot_of_word};
-ghost use Rattle.pmap_calls.specs.Asking.{IsKnown, IsPlaceIn, IsSlot, asked, named_by, place_by};
+ghost use Rattle.file_tables.specs.Keys.{IsKnown};
+ghost use Rattle.pmap_calls.specs.Asking.{IsPlaceIn, IsSlot, asked, place_by};
+ghost use Rattle.call_turns.specs.Numbers.{named_by};
 
 use file_tables::FileTables;
 use fork_tree::Tree;

@@ -1,8 +1,6 @@
 // PMAP, page by page: its registers.
 ghost use Rattle.std.specs.Prelude.{◌≡◌, ◌<◌, true};
 ghost use Rattle.plain_model.specs.MapCalls.{behind_page as behind_page_of, is_counted as is_counted_of, next_source as next_source_of, on_next_page as on_next_page_of, pages_left as pages_left_of};
-ghost use Rattle.machine_names.specs.declared.names.TheConstants.{ACCUMULATORS};
-ghost use Rattle.plain_units.specs.Deeds.{in_ac};
 ghost use Rattle.call_turns.specs.Turns.{IsRegs};
 
 use call_turns::{behind, with_ac};
@@ -11,15 +9,6 @@ use word36::Word;
 
 /// A source of all ones: the destination is taken out of its map.
 pub const NO_SOURCE: u64 = Word::MASK;
-
-/// The word in an accumulator, 0 to 15.
-pub fn accumulator(regs: &Regs, ac: usize) -> Word
-    requires regs { IsRegs regs.now }
-    requires ac { ac < ACCUMULATORS }
-    ensures { result ≡ in_ac regs.now ac }
-{
-    regs.ac[ac]
-}
 
 /// Whether PMAP goes over pages: bit 0 of accumulator 3.
 pub fn is_counted(regs: &Regs) -> bool

@@ -2,9 +2,10 @@
 ghost use Rattle.std.specs.Prelude.{◌≡◌, IfOk};
 ghost use Rattle.machine_names.specs.Bounds.{IsTerminal};
 ghost use Rattle.plain_model.specs.MapCalls.{one_page as one_page_of, places_named as places_named_of};
-ghost use Rattle.call_turns.specs.Numbers.{numbered_turn};
+ghost use Rattle.call_turns.specs.Numbers.{numbered_turn, named_by};
 ghost use Rattle.call_turns.specs.Turns.{FitsTurn, IsRegs};
-ghost use Rattle.pmap_calls.specs.Asking.{ArePlacesIn, asked, key_of, named_by, places_by};
+ghost use Rattle.pmap_calls.specs.Asking.{ArePlacesIn, asked, places_by};
+ghost use Rattle.file_tables.specs.Keys.{key_of};
 ghost use Rattle.pmap_calls.specs.Paging.{CanGoOn, mapping_named, unmapping_named};
 ghost use Rattle.pmap_calls.specs.Stages.{IsMapChange, IsStage, whole};
 

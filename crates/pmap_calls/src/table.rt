@@ -5,7 +5,8 @@ ghost use Rattle.plain_model.specs.MapCalls.{map_call, map_calls};
 ghost use Rattle.machine_names.specs.Bounds.{IsTerminal};
 ghost use Rattle.call_turns.specs.Numbers.{numbered_turn};
 ghost use Rattle.call_turns.specs.Turns.{IsRegs, FitsTurn};
-ghost use Rattle.pmap_calls.specs.Asking.{asked, key_of};
+ghost use Rattle.pmap_calls.specs.Asking.{asked};
+ghost use Rattle.file_tables.specs.Keys.{key_of};
 ghost use Rattle.pmap_calls.specs.Stages.{IsMapChange, IsStage, whole};
 
 use crate::calls::{pmap, rmap, rpacs, spacs};

@@ -13,8 +13,10 @@ ghost use Rattle.call_turns.specs.Answers.{AnswerNeeds, FitsAnswer, IsDone};
 ghost use Rattle.call_turns.specs.Granting.{IsGranted, pages_granted};
 ghost use Rattle.call_turns.specs.Telling.{entry_need};
 ghost use Rattle.call_turns.specs.Turns.{FitsOutcome, IsRegs};
-ghost use Rattle.pmap_calls.specs.Asking.{asked, key_of};
-ghost use Rattle.pmap_calls.specs.Making.{Ends, Makes, MakesAtMost, MakesIn, MakesOne, Turns, change_need};
+ghost use Rattle.pmap_calls.specs.Asking.{asked};
+ghost use Rattle.file_tables.specs.Keys.{key_of};
+ghost use Rattle.pmap_calls.specs.Making.{Ends, Makes, Turns, change_need};
+ghost use Rattle.call_turns.specs.Making.{MakesAtMost, MakesIn, MakesOne};
 ghost use Rattle.pmap_calls.specs.Stages.{IsMapChange};
 
 use crate::table::first;

@@ -21,8 +21,7 @@ use Rattle.plain_model.specs.InterruptCalls.{InterruptTurn, dismissed, restored,
 use Rattle.plain_model.specs.Trees.{PlainTree, with_body, with_changed_of}
 use Rattle.call_turns.specs.declared.answer.Answer.{Answer}
 use Rattle.call_turns.specs.declared.answer.Answer.TheVariants.{After}
-use Rattle.call_turns.specs.Answers.{Went, answer_of}
-use Rattle.fork_calls.specs.Turning.{stopped_by}
+use Rattle.call_turns.specs.Answers.{Went, answer_of, stopped_by}
 use Rattle.ka10_unit.specs.declared.taken.Stop.{Stop}
 use Rattle.ka10_unit.specs.declared.taken.Stop.TheVariants.{Trap, Need as NeedStop}
 use Rattle.ka10_unit.specs.Gathers.{Framed, framed}

@@ -12,9 +12,9 @@ use Rattle.plain_model.specs.Interrupts.{channels_of, forces, has_channel, poste
 use Rattle.plain_model.specs.Posting.{told_if, with_all_posted}
 use Rattle.plain_model.specs.Trees.{end_told}
 use Rattle.plain_model.proofs.ForkMaps.{AreOwn}
-use Rattle.fork_calls.specs.Steps.{IsBodyOf}
-use Rattle.fork_calls.proofs.Halting.{end_keeps, posted_mild}
-use Rattle.fork_calls.proofs.Places.{IsMild, Keep, changed_keeps, keep_itself, keep_on}
+use Rattle.job_forks.specs.Limits.{IsBodyOf}
+use Rattle.job_forks.proofs.Telling.{end_keeps, posted_mild}
+use Rattle.job_forks.proofs.Places.{IsMild, Keep, changed_keeps, keep_itself, keep_on}
 
 -- ---- the channels of a list
 

@@ -3,7 +3,7 @@ use Rattle.script_texts.specs.declared.status.ForkStatus.{ForkStatus}
 use Rattle.script_texts.specs.declared.status.ForkStatus.TheVariants.{Run, Wait, Halted, Forced}
 use Rattle.plain_model.specs.declared.fork.Body.{Body}
 use Rattle.plain_model.specs.Interrupts.{woken}
-use Rattle.fork_calls.specs.Limits.{FitsForced, IsBody}
+use Rattle.job_forks.specs.Limits.{FitsForced, IsBody}
 
 woken_fits : (s : ForkStatus) → FitsForced s → FitsForced (woken s)
 woken_fits Run h = h

@@ -13,7 +13,7 @@ use Rattle.plain_model.specs.Forks.{ForkMap}
 use Rattle.plain_model.specs.InterruptCalls.{InterruptTurn, dismissed}
 use Rattle.plain_model.specs.Interrupts.{channels_of, posted_all}
 use Rattle.call_turns.specs.Turns.{FitsEnd}
-use Rattle.fork_calls.specs.Steps.{IsBodyOf}
+use Rattle.job_forks.specs.Limits.{IsBodyOf}
 use Rattle.fork_tree.specs.Trees.{Lives}
 use Rattle.psi_calls.specs.declared.step.FirstStep.{FirstStep}
 use Rattle.psi_calls.specs.declared.step.FirstStep.TheVariants.{Ends, Dismisses}

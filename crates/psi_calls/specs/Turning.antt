@@ -21,8 +21,7 @@ use Rattle.plain_model.specs.Trees.{PlainTree}
 use Rattle.call_turns.specs.declared.answer.Answer.{Answer}
 use Rattle.call_turns.specs.declared.answer.Answer.TheVariants.{After}
 use Rattle.call_turns.specs.Answers.{IsTurn}
-use Rattle.call_turns.specs.Needing.{TurnNeeds}
-use Rattle.fork_calls.specs.Needing.{NoTouches}
+use Rattle.call_turns.specs.Needing.{TurnNeeds, NoTouches}
 use Rattle.text_pointers.specs.Needing.{StepsNeed}
 use Rattle.text_pointers.specs.Reading.{text_frames}
 

@@ -2,7 +2,7 @@
 ghost use Rattle.std.specs.Prelude.{◌≡◌, Some, false, true};
 ghost use Rattle.plain_model.specs.Interrupts.{with_channels as with_channels_of, without_channels as without_channels_of, woken as woken_of};
 ghost use Rattle.plain_model.specs.InterruptCalls.{awake as awake_of, with_psi};
-ghost use Rattle.fork_calls.specs.Limits.{IsBody};
+ghost use Rattle.job_forks.specs.Limits.{IsBody};
 
 use fork_tree::wants_one;
 use ka10_alu::boolean;

@@ -12,15 +12,15 @@ ghost use Rattle.plain_typing.specs.Lines.{IsAssignable};
 ghost use Rattle.plain_model.specs.InterruptCalls.{aic as aic_of, ati as ati_of, debrk as debrk_of, dic as dic_of, dir as dir_of, dismissed_if, dti as dti_of, eir as eir_of, iic as iic_of, is_bad_code as is_bad_code_of, sir as sir_of};
 ghost use Rattle.call_turns.specs.Turns.{FitsEnd, IsRegs};
 ghost use Rattle.fork_tree.specs.Trees.{Lives};
-ghost use Rattle.fork_calls.specs.Asking.{asked};
-ghost use Rattle.fork_calls.specs.Steps.{IsBodyOf};
+ghost use Rattle.job_forks.specs.Asking.{asked};
+ghost use Rattle.job_forks.specs.Limits.{IsBodyOf};
 ghost use Rattle.psi_calls.specs.Steps.{FitsStep, IsChange, IsLevelOf, dismissed_at, posts_to, whole};
 
 use crate::bodies::{switched_off, switched_on, with_channels, with_table, without_channels};
 use crate::levels::least_level;
 use crate::step::{FirstStep, LevelToEnd};
 use call_turns::returning;
-use fork_calls::own_named;
+use job_forks::own_named;
 use fork_tree::{Tree, post_all};
 use machine_names::ForkName;
 use plain_model::call::{BAD_CODE, End, InterruptChange};

@@ -1,6 +1,6 @@
 // The changes that calls on pseudo-interrupts make, once they are done.
 ghost use Rattle.std.specs.Prelude.{◌≡◌};
-ghost use Rattle.fork_calls.specs.Holding.{ComeFrom, SamePlaces};
+ghost use Rattle.job_forks.specs.Holding.{ComeFrom, SamePlaces};
 ghost use Rattle.fork_tree.specs.Trees.{IsTree};
 ghost use Rattle.plain_model.specs.Forks.{OthersStay};
 ghost use Rattle.psi_calls.specs.Steps.{IsChange};

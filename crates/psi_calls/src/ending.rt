@@ -1,11 +1,10 @@
 // How a turn of a call on pseudo-interrupts ends.
 ghost use Rattle.std.specs.Prelude.{◌≡◌, ◌<◌, ◌^◌, true};
 ghost use Rattle.plain_model.specs.declared.call.End.{End as AnEnd};
-ghost use Rattle.call_turns.specs.Answers.{AnswerNeeds, IsDone, answer_of as answer_to};
+ghost use Rattle.call_turns.specs.Answers.{AnswerNeeds, IsDone, answer_of as answer_to, HasRegs};
 ghost use Rattle.call_turns.specs.Turns.{FitsEnd, IsRegs};
-ghost use Rattle.fork_calls.specs.Asking.{asked};
-ghost use Rattle.fork_calls.specs.Holding.{CallLeaves, ComeFrom, Holds, SamePlaces};
-ghost use Rattle.fork_calls.specs.Turning.{HasRegs, stopped_by};
+ghost use Rattle.job_forks.specs.Asking.{asked};
+ghost use Rattle.job_forks.specs.Holding.{CallLeaves, ComeFrom, Holds, SamePlaces};
 ghost use Rattle.fork_tree.specs.Trees.{IsTree, Lives};
 ghost use Rattle.ka10_unit.specs.Gathers.{Serves};
 ghost use Rattle.plain_typing.specs.Lines.{InputLine};
@@ -18,26 +17,14 @@ use crate::changing::change;
 use crate::levels::{restored, without_level};
 use crate::step::LevelToEnd;
 use crate::stored::word_stored;
-use call_turns::{Answer, answer_of};
+use call_turns::{Answer, answer_of, stopped};
 use fork_tree::Tree;
-use ka10_unit::Stop;
 use machine_names::ForkName;
 use page_contracts::Pages;
 use plain_model::call::{End, InterruptChange};
 use plain_units::Regs;
 use text_pointers::Reader;
 use tty_lines::Line;
-
-// The answer of a turn that stops before its end.
-fn stopped(stop: Stop) -> Answer
-    ensures answer { result ≡ stopped_by stop }
-    ensures regs { HasRegs result }
-{
-    match stop {
-        Stop::Trap(channel) => Answer::Trap(channel),
-        Stop::Need(need) => Answer::Need(need),
-    }
-}
 
 /// Ends a turn that reads no word: its change is made, if it is done; one that isn't leaves all as it was.
 pub fn end(ending: End<InterruptChange>, who: ForkName, tree: &mut Tree, line: &mut Line) -> Answer

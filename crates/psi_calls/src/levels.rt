@@ -5,7 +5,7 @@ ghost use Rattle.plain_model.specs.declared.interrupt.TheConstants.{LEVELS};
 ghost use Rattle.plain_model.specs.Inspections.{least_level as least_level_of};
 ghost use Rattle.plain_model.specs.InterruptCalls.{restored as restored_of, without_level as without_level_of};
 ghost use Rattle.call_turns.specs.Turns.{IsRegs};
-ghost use Rattle.fork_calls.specs.Limits.{IsBody};
+ghost use Rattle.job_forks.specs.Limits.{IsBody};
 
 use ka10_deeds::flags_of;
 use plain_model::{Body, Psi};

@@ -5,7 +5,7 @@ ghost use Rattle.plain_model.specs.InterruptCalls.{interrupt_calls};
 ghost use Rattle.machine_names.specs.declared.names.ForkName.{ForkName as AForkName};
 ghost use Rattle.plain_model.specs.Forks.{ForkMap};
 ghost use Rattle.call_turns.specs.Turns.{FitsEnd, IsRegs};
-ghost use Rattle.fork_calls.specs.Asking.{asked};
+ghost use Rattle.job_forks.specs.Asking.{asked};
 ghost use Rattle.psi_calls.specs.Steps.{FitsStep, IsChange, whole};
 
 use crate::calls::{aic, ati, debrk, dic, dir, dti, eir, iic, sir};

@@ -3,11 +3,10 @@ ghost use Rattle.std.specs.Prelude.{◌≡◌, ◌<◌, ◌^◌, IsSome, true};
 ghost use Rattle.std.specs.FinMap as map;
 ghost use Rattle.plain_model.specs.Calls.{numbered};
 ghost use Rattle.plain_model.specs.InterruptCalls.{interrupt_calls};
-ghost use Rattle.call_turns.specs.Answers.{AnswerNeeds, IsDone};
+ghost use Rattle.call_turns.specs.Answers.{AnswerNeeds, IsDone, HasRegs};
 ghost use Rattle.call_turns.specs.Turns.{IsRegs};
-ghost use Rattle.fork_calls.specs.Asking.{asked};
-ghost use Rattle.fork_calls.specs.Holding.{CallLeaves, Holds};
-ghost use Rattle.fork_calls.specs.Turning.{HasRegs};
+ghost use Rattle.job_forks.specs.Asking.{asked};
+ghost use Rattle.job_forks.specs.Holding.{CallLeaves, Holds};
 ghost use Rattle.psi_calls.specs.Turning.{Stays, Turned, psi_frames};
 
 use crate::ending::{dismiss, end};

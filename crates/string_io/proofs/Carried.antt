@@ -21,13 +21,13 @@ use Rattle.plain_model.specs.declared.call.End.TheVariants.{Done, Waits, Halts, 
 use Rattle.plain_model.specs.ByteCalls.{byte_changed}
 use Rattle.plain_model.specs.Calls.{parts_behind}
 use Rattle.plain_model.specs.FileCalls.{FileParts, Jobs}
-use Rattle.pmap_calls.specs.Making.{MakesAtMost}
+use Rattle.call_turns.specs.Making.{MakesAtMost}
 use Rattle.file_tables.specs.declared.tables.FileTables.{FileTables}
-use Rattle.pmap_calls.specs.Asking.{key_of}
+use Rattle.file_tables.specs.Keys.{key_of}
 use Rattle.ka10_unit.specs.Carrying.{Grows}
 use Rattle.ka10_unit.specs.Gathers.{Framed}
-use Rattle.byte_io.specs.Asking.{parts}
-use Rattle.byte_io.specs.Planning.{made_for, pages_for}
+use Rattle.file_bytes.specs.Asking.{parts}
+use Rattle.file_bytes.specs.Planning.{made_for, pages_for}
 use Rattle.string_io.specs.Carrying.{Opens}
 use Rattle.string_io.specs.Planning.{OpensEnd}
 

@@ -35,16 +35,16 @@ use Rattle.call_turns.specs.Needing.{FirstNeeds}
 use Rattle.call_turns.specs.Telling.{page_need}
 use Rattle.call_turns.specs.Turns.{FitsEnd}
 use Rattle.file_tables.specs.declared.tables.FileTables.{FileTables}
-use Rattle.pmap_calls.specs.Asking.{key_of, seen_in}
+use Rattle.file_tables.specs.Keys.{key_of, seen_in}
 use Rattle.text_pointers.specs.Needing.{NeedsFirst, frames_left}
 use Rattle.text_pointers.specs.Outcomes.{IsPlain, Outcome, goes_on, leaves, stops}
 use Rattle.text_pointers.specs.declared.byte.PointedByte.{PointedByte}
 use Rattle.text_pointers.specs.Reading.{ReadsByte, pages_so_far}
 use Rattle.text_pointers.proofs.Turns.{byte_goes, byte_traps}
 use Rattle.text_pointers.proofs.Needs.{AreLeft, address_only, byte_needs, run_behind, run_left}
-use Rattle.byte_io.specs.Planning.{CanTurn, made_for}
-use Rattle.byte_io.proofs.NextByte.{first_needs}
-use Rattle.byte_io.proofs.Plans.{still}
+use Rattle.file_bytes.specs.Planning.{CanTurn, made_for}
+use Rattle.file_bytes.proofs.NextByte.{first_needs}
+use Rattle.file_bytes.proofs.Plans.{still}
 use Rattle.string_io.specs.declared.plan.Plan.{Plan}
 use Rattle.string_io.specs.Depositing.{CanCarry, Deposits, deposit_at, deposits, ends_on, pages_planned, planned_as}
 use Rattle.string_io.specs.Planning.{CanEnd, IsPlan, OpensEnd, Plans}

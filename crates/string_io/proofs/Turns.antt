@@ -17,17 +17,16 @@ use Rattle.plain_model.specs.ByteCalls.{ByteAsked, ByteTurn, byte_changed}
 use Rattle.plain_model.specs.StringCalls.{psout, sin, sout, string_call}
 use Rattle.plain_model.specs.FileCalls.{FileParts, Jobs}
 use Rattle.call_turns.specs.declared.answer.Answer.{Answer}
-use Rattle.call_turns.specs.Answers.{Went, answer_of}
-use Rattle.fork_calls.specs.Turning.{stopped_by}
+use Rattle.call_turns.specs.Answers.{Went, answer_of, stopped_by}
 use Rattle.ka10_unit.specs.declared.taken.Stop.{Stop}
 use Rattle.ka10_unit.specs.declared.taken.Stop.TheVariants.{Trap, Need}
 use Rattle.ka10_unit.specs.Gathers.{framed}
 use Rattle.file_tables.specs.declared.tables.FileTables.{FileTables}
-use Rattle.pmap_calls.specs.Asking.{key_of, seen_in}
-use Rattle.byte_io.specs.Asking.{HasLine, jobs_with, parts}
-use Rattle.byte_io.specs.Planning.{made_for}
-use Rattle.byte_io.proofs.JobParts.{all_same}
-use Rattle.byte_io.proofs.Tests.{is_other}
+use Rattle.file_tables.specs.Keys.{key_of, seen_in}
+use Rattle.file_bytes.specs.Asking.{HasLine, jobs_with, parts}
+use Rattle.file_bytes.specs.Planning.{made_for}
+use Rattle.file_bytes.proofs.JobParts.{all_same}
+use Rattle.file_bytes.proofs.Tests.{is_other}
 use Rattle.string_io.specs.declared.plan.Plan.{Plan}
 use Rattle.string_io.specs.Carrying.{CarriedAt}
 use Rattle.string_io.specs.Depositing.{pages_planned}

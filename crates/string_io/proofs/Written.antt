@@ -34,15 +34,15 @@ use Rattle.ka10_unit.specs.declared.taken.Stop.TheVariants.{Trap, Need}
 use Rattle.ka10_unit.specs.Gathers.{Framed, framed}
 use Rattle.call_turns.specs.Telling.{touch_need}
 use Rattle.file_tables.specs.declared.tables.FileTables.{FileTables}
-use Rattle.pmap_calls.specs.Asking.{key_of, seen_in}
+use Rattle.file_tables.specs.Keys.{key_of, seen_in}
 use Rattle.text_pointers.specs.Needing.{frames_left}
 use Rattle.text_pointers.specs.declared.byte.PointedByte.{PointedByte}
 use Rattle.text_pointers.specs.Reading.{ReadsByte, pages_so_far}
 use Rattle.text_pointers.proofs.Needs.{byte_later}
 use Rattle.text_pointers.proofs.Turns.{byte_goes}
-use Rattle.byte_io.specs.Asking.{asked_on}
-use Rattle.byte_io.specs.Planning.{made_for, page_for}
-use Rattle.byte_io.proofs.NextByte.{first_needs}
+use Rattle.file_bytes.specs.Asking.{asked_on}
+use Rattle.file_bytes.specs.Planning.{made_for, page_for}
+use Rattle.file_bytes.proofs.NextByte.{first_needs}
 use Rattle.string_io.specs.declared.plan.Plan.{Plan}
 use Rattle.string_io.specs.Depositing.{CanCarry, pages_planned}
 use Rattle.string_io.specs.Filling.{FillsAs}

@@ -16,10 +16,10 @@ use Rattle.plain_model.specs.ByteCalls.{byte_changed}
 use Rattle.plain_model.specs.Calls.{parts_behind}
 use Rattle.plain_model.specs.FileCalls.{Jobs}
 use Rattle.file_tables.specs.declared.tables.FileTables.{FileTables}
-use Rattle.pmap_calls.specs.Asking.{key_of}
+use Rattle.file_tables.specs.Keys.{key_of}
 use Rattle.ka10_unit.specs.Gathers.{framed}
-use Rattle.byte_io.specs.Asking.{HasLine, jobs_with, parts}
-use Rattle.byte_io.specs.Planning.{made_for, page_for, pages_for}
+use Rattle.file_bytes.specs.Asking.{HasLine, jobs_with, parts}
+use Rattle.file_bytes.specs.Planning.{made_for, page_for, pages_for}
 use Rattle.string_io.specs.declared.plan.Plan.{Plan}
 use Rattle.string_io.specs.Depositing.{pages_planned}
 

@@ -23,11 +23,11 @@ use Rattle.plain_model.specs.ByteCalls.{ByteTurn}
 use Rattle.plain_model.specs.Calls.{turn_on}
 use Rattle.call_turns.specs.Turns.{FitsEnd}
 use Rattle.file_tables.specs.declared.tables.FileTables.{FileTables}
-use Rattle.pmap_calls.specs.Asking.{seen_in}
+use Rattle.file_tables.specs.Keys.{seen_in}
 use Rattle.ka10_unit.specs.declared.taken.Stop.{Stop}
 use Rattle.ka10_unit.specs.declared.taken.Stop.TheVariants.{Trap, Need}
 use Rattle.ka10_unit.specs.Gathers.{Framed, framed}
-use Rattle.byte_io.specs.Planning.{CanTurn, made_for, page_for}
+use Rattle.file_bytes.specs.Planning.{CanTurn, made_for, page_for}
 use Rattle.string_io.specs.declared.plan.Plan.{Plan}
 use Rattle.string_io.specs.Depositing.{CanCarry, pages_planned}
 use Rattle.string_io.specs.Turning.{StringNeeds}

@@ -9,12 +9,12 @@ use Rattle.plain_model.specs.ByteCalls.{ByteTurn}
 use Rattle.call_turns.specs.declared.answer.Answer.{Answer}
 use Rattle.call_turns.specs.Needing.{OneTouchNeeds, TurnNeeds}
 use Rattle.file_tables.specs.declared.tables.FileTables.{FileTables}
-use Rattle.pmap_calls.specs.Asking.{seen_in}
+use Rattle.file_tables.specs.Keys.{seen_in}
 use Rattle.ka10_unit.specs.declared.taken.Stop.{Stop}
 use Rattle.ka10_unit.specs.Taking.{IsTrap, StopNeeds}
 use Rattle.text_pointers.specs.Needing.{StepsNeed}
 use Rattle.text_pointers.specs.Reading.{text_frames}
-use Rattle.byte_io.specs.Turning.{NoNeeds, TurnedBy}
+use Rattle.file_bytes.specs.Turning.{NoNeeds, TurnedBy}
 
 -- WHAT A TURN OF A CALL ON STRINGS NEEDS FIRST: what its references need, each on the pages that those before it leave, and the page of
 -- the byte of a file that is read or written, or a frame for it

@@ -5,8 +5,7 @@ ghost use Rattle.word36.specs.Words.{is_negative as is_negative_of};
 ghost use Rattle.plain_model.specs.StringCalls.{behind_byte as behind_byte_of, count_behind as count_behind_of, is_last as is_last_of};
 ghost use Rattle.call_turns.specs.Turns.{IsRegs};
 
-use crate::ends::accumulator;
-use call_turns::{behind, with_ac};
+use call_turns::{accumulator, behind, with_ac};
 use plain_units::Regs;
 use word36::Word;
 

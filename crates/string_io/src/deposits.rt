@@ -13,8 +13,8 @@ ghost use Rattle.plain_units.specs.Instructions.{storing as storing_of};
 ghost use Rattle.string_io.specs.Depositing.{Deposits, DepositsAt};
 ghost use Rattle.string_io.specs.Turning.{StringStops};
 
-use crate::ends::accumulator;
 use crate::plan::Plan;
+use call_turns::accumulator;
 use ka10_bytes::deposit;
 use ka10_unit::{Stop, Taken, address_of, ask, held_word};
 use machine_names::{ACCUMULATORS, ForkName, Kind};

@@ -8,28 +8,15 @@ ghost use Rattle.plain_pages.specs.PlainPages.{NumberedPages};
 ghost use Rattle.plain_units.specs.Deeds.{in_ac};
 ghost use Rattle.plain_model.specs.StringCalls.{next_pointer as next_pointer_of};
 ghost use Rattle.call_turns.specs.Turns.{IsRegs};
-ghost use Rattle.fork_calls.specs.Turning.{HasRegs, stopped_by};
 
 use crate::plan::Plan;
-use call_turns::Answer;
-use ka10_unit::Stop;
+use call_turns::accumulator;
 use machine_names::ForkName;
 use page_gather::Gather;
 use plain_model::call::{ByteChange, End};
 use plain_units::Regs;
 use text_pointers::{Reader, next_pointer};
 use word36::Word;
-
-/// The answer of a turn that stops before its end.
-pub fn stopped(stop: Stop) -> Answer
-    ensures answer { result ≡ stopped_by stop }
-    ensures regs { HasRegs result }
-{
-    match stop {
-        Stop::Trap(channel) => Answer::Trap(channel),
-        Stop::Need(need) => Answer::Need(need),
-    }
-}
 
 /// The plan of a turn that ends so, and refers to nothing.
 pub fn at_once(who: ForkName, ending: End<ByteChange>) -> Plan
@@ -61,15 +48,6 @@ pub fn reading_plan(reader: Reader, ending: End<ByteChange>) -> Plan
         put: None,
         ending,
     }
-}
-
-/// The word in an accumulator, 0 to 15.
-pub fn accumulator(regs: &Regs, ac: usize) -> Word
-    requires regs { IsRegs regs.now }
-    requires ac { ac < ACCUMULATORS }
-    ensures { result ≡ in_ac regs.now ac }
-{
-    regs.ac[ac]
 }
 
 /// The pointer to the next byte of the string whose pointer is in an accumulator, 0 to 15.

@@ -6,8 +6,8 @@ ghost use Rattle.plain_model.specs.Calls.{ends};
 ghost use Rattle.call_turns.specs.Turns.{FitsEnd, IsRegs};
 ghost use Rattle.file_tables.specs.declared.tables.FileTables.{FileTables as AFileTables};
 ghost use Rattle.ka10_unit.specs.Gathers.{Serves};
-ghost use Rattle.byte_io.specs.Asking.{asked, asked_on};
-ghost use Rattle.byte_io.specs.Planning.{CanTurn};
+ghost use Rattle.file_bytes.specs.Asking.{asked, asked_on};
+ghost use Rattle.file_bytes.specs.Planning.{CanTurn};
 ghost use Rattle.string_io.specs.Planning.{FitsPlan, Plans};
 ghost use Rattle.string_io.specs.Turning.{StringStops};
 

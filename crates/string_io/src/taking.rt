@@ -9,8 +9,8 @@ ghost use Rattle.plain_model.specs.StringCalls.{at_end as at_end_of, sin as sin_
 ghost use Rattle.call_turns.specs.Turns.{FitsEnd, IsRegs};
 ghost use Rattle.file_tables.specs.declared.tables.FileTables.{FileTables as AFileTables};
 ghost use Rattle.ka10_unit.specs.Gathers.{Serves};
-ghost use Rattle.byte_io.specs.Asking.{IsOpenAs, asked, asked_on};
-ghost use Rattle.byte_io.specs.Planning.{CanTurn};
+ghost use Rattle.file_bytes.specs.Asking.{IsOpenAs, asked, asked_on};
+ghost use Rattle.file_bytes.specs.Planning.{CanTurn};
 ghost use Rattle.string_io.specs.Planning.{FitsPlan, Plans};
 ghost use Rattle.string_io.specs.Turning.{StringStops};
 
@@ -18,7 +18,7 @@ use crate::counting::behind_byte;
 use crate::deposits::{NextByte, deposits};
 use crate::ends::{at_once, pointer_in};
 use crate::plan::Plan;
-use byte_io::{Way, end_of, jfn_number, jfn_open};
+use file_bytes::{Way, end_of, jfn_number, jfn_open};
 use call_turns::{behind, word_of};
 use file_tables::FileTables;
 use ka10_bytes::load;

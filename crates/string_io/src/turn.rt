@@ -2,23 +2,22 @@
 ghost use Rattle.std.specs.Prelude.{◌≡◌, ◌<◌, ◌^◌, IfErr, IfOk, true};
 ghost use Rattle.plain_model.specs.Calls.{is_among};
 ghost use Rattle.plain_model.specs.StringCalls.{string_call, string_calls};
-ghost use Rattle.call_turns.specs.Answers.{AnswerNeeds, IsDone};
+ghost use Rattle.call_turns.specs.Answers.{AnswerNeeds, IsDone, HasRegs};
 ghost use Rattle.call_turns.specs.Turns.{IsRegs};
-ghost use Rattle.fork_calls.specs.Turning.{HasRegs};
 ghost use Rattle.ka10_unit.specs.Carrying.{Grows};
 ghost use Rattle.ka10_unit.specs.Gathers.{Serves};
-ghost use Rattle.byte_io.specs.Asking.{asked_on};
-ghost use Rattle.byte_io.specs.Turning.{OthersStay, Stays};
+ghost use Rattle.file_bytes.specs.Asking.{asked_on};
+ghost use Rattle.file_bytes.specs.Turning.{OthersStay, Stays};
 ghost use Rattle.string_io.specs.Planning.{FitsPlan, Plans};
 ghost use Rattle.string_io.specs.Turning.{StringStops, StringTurned, string_frames};
 
 use crate::carrying::carry_out;
-use crate::ends::{at_once, stopped};
+use crate::ends::at_once;
 use crate::plan::Plan;
 use crate::printing::psout;
 use crate::taking::sin;
 use crate::writing::sout;
-use call_turns::Answer;
+use call_turns::{Answer, stopped};
 use file_tables::FileTables;
 use ka10_unit::Stop;
 use machine_names::ForkName;

@@ -3,8 +3,8 @@ use Rattle.plain_files.specs.NamedFiles.{open_file}
 use Rattle.plain_units.specs.Deeds.{in_ac}
 use Rattle.plain_model.specs.ByteCalls.{end_for}
 use Rattle.plain_model.specs.MapCalls.{ALL_ONES}
-use Rattle.byte_io.specs.Asking.{asked}
-use Rattle.byte_io.proofs.Tests.{is_same}
+use Rattle.file_bytes.specs.Asking.{asked}
+use Rattle.file_bytes.proofs.Tests.{is_same}
 use Rattle.byte_io.proofs.positions.position_in.Goals as goal
 
 pub returns-then-value-eq-MASK : goal.returns-then-value-eq-MASK

@@ -5,8 +5,8 @@ use Rattle.plain_model.specs.declared.call.ByteChange.TheVariants.{Nothing}
 use Rattle.plain_model.specs.Calls.{with_ac}
 use Rattle.plain_model.specs.FileCalls.{skipping}
 use Rattle.plain_model.specs.ByteCalls.{is_open, jfn_open}
-use Rattle.byte_io.specs.Asking.{asked}
-use Rattle.byte_io.proofs.Ending.{ends_with, fails_with, is_word}
+use Rattle.file_bytes.specs.Asking.{asked}
+use Rattle.file_bytes.proofs.Ending.{ends_with, fails_with, is_word}
 use Rattle.byte_io.proofs.positions.rfptr.Goals as goal
 
 pub returns-in-Ok-clause-turn : goal.returns-in-Ok-clause-turn

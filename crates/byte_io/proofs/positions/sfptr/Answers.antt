@@ -7,9 +7,9 @@ use Rattle.plain_model.specs.declared.call.ByteChange.TheVariants.{Move}
 use Rattle.plain_model.specs.FileCalls.{skipping}
 use Rattle.plain_model.specs.ByteCalls.{is_open, jfn_open, moving, position_in}
 use Rattle.call_turns.specs.Turns.{FitsEnd}
-use Rattle.byte_io.specs.Asking.{IsOpenAs, asked}
-use Rattle.byte_io.specs.Planning.{CanTurn}
-use Rattle.byte_io.proofs.Ending.{can_move, ends_with, fails_with, moves_there, too_far}
+use Rattle.file_bytes.specs.Asking.{IsOpenAs, asked}
+use Rattle.file_bytes.specs.Planning.{CanTurn}
+use Rattle.file_bytes.proofs.Ending.{can_move, ends_with, fails_with, moves_there, too_far}
 use Rattle.byte_io.proofs.positions.sfptr.Goals as goal
 
 pub returns-then-at-most_bytes-clause-turn : goal.returns-then-at-most_bytes-clause-turn

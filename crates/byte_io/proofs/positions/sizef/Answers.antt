@@ -7,9 +7,9 @@ use Rattle.plain_model.specs.declared.call.ByteChange.TheVariants.{Nothing}
 use Rattle.plain_model.specs.Calls.{with_ac}
 use Rattle.plain_model.specs.FileCalls.{skipping}
 use Rattle.plain_model.specs.ByteCalls.{file_for, jfn_held}
-use Rattle.byte_io.specs.Asking.{asked_on, file_kept}
-use Rattle.byte_io.proofs.Ending.{ends_with, fails_with}
-use Rattle.byte_io.proofs.Files.{counted}
+use Rattle.file_bytes.specs.Asking.{asked_on, file_kept}
+use Rattle.file_bytes.proofs.Ending.{ends_with, fails_with}
+use Rattle.file_bytes.proofs.Files.{counted}
 use Rattle.byte_io.proofs.positions.sizef.Goals as goal
 
 pub returns-in-Ok-clause-turn : goal.returns-in-Ok-clause-turn

@@ -6,10 +6,10 @@ use Rattle.plain_model.specs.declared.call.End.TheVariants.{Refused}
 use Rattle.plain_model.specs.Calls.{ends, given}
 use Rattle.plain_model.specs.MapCalls.{is_read}
 use Rattle.plain_model.specs.ByteCalls.{ByteTurn, bin, jfn_number, jfn_open, next_byte, next_character}
-use Rattle.byte_io.specs.Asking.{asked_on}
-use Rattle.byte_io.specs.Planning.{IsPlan}
-use Rattle.byte_io.proofs.Plans.{ends_at_once}
-use Rattle.byte_io.proofs.Tests.{at_file, at_input, at_output}
+use Rattle.file_bytes.specs.Asking.{asked_on}
+use Rattle.file_bytes.specs.Planning.{IsPlan}
+use Rattle.file_bytes.proofs.Plans.{ends_at_once}
+use Rattle.file_bytes.proofs.Tests.{at_file, at_input, at_output}
 use Rattle.byte_io.proofs.reading.bin.Goals as goal
 
 pub returns-then-number-eq-TERMINAL_INPUT-clause-told : goal.returns-then-number-eq-TERMINAL_INPUT-clause-told

@@ -12,12 +12,12 @@ use Rattle.word36.specs.Bytes.{loaded}
 use Rattle.call_turns.specs.Telling.{page_need}
 use Rattle.call_turns.specs.Turns.{FitsEnd}
 use Rattle.call_turns.proofs.Looks.{needed_is, told_is}
-use Rattle.byte_io.specs.Asking.{IsOpenAs, asked_on}
-use Rattle.byte_io.specs.Planning.{CanTurn}
-use Rattle.byte_io.proofs.Ending.{can_move}
-use Rattle.byte_io.proofs.NextByte.{ended, read_is, read_needs}
-use Rattle.byte_io.proofs.Plans.{comes_so, ends_at_once}
-use Rattle.byte_io.proofs.Tests.{is_beyond, is_within}
+use Rattle.file_bytes.specs.Asking.{IsOpenAs, asked_on}
+use Rattle.file_bytes.specs.Planning.{CanTurn}
+use Rattle.file_bytes.proofs.Ending.{can_move}
+use Rattle.file_bytes.proofs.NextByte.{ended, read_is, read_needs}
+use Rattle.file_bytes.proofs.Plans.{comes_so, ends_at_once}
+use Rattle.file_bytes.proofs.Tests.{is_beyond, is_within}
 use Rattle.byte_io.proofs.reading.next_byte.Goals as goal
 
 pub returns-then-end_of-jfn-clause-told : goal.returns-then-end_of-jfn-clause-told

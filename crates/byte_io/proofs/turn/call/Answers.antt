@@ -1,7 +1,7 @@
 use Rattle.std.proofs.Common.{inr, refl, ap}
-use Rattle.pmap_calls.proofs.Changes.{lost_none}
-use Rattle.byte_io.specs.Asking.{parts}
-use Rattle.byte_io.proofs.JobParts.{all_same}
+use Rattle.ka10_spots.proofs.Stored.{lost_none}
+use Rattle.file_bytes.specs.Asking.{parts}
+use Rattle.file_bytes.proofs.JobParts.{all_same}
 use Rattle.byte_io.proofs.turn.call.Goals as goal
 
 pub returns-in-Err-clause-told : goal.returns-in-Err-clause-told

@@ -1,11 +1,11 @@
 use Rattle.std.proofs.Common.{refl, sym, ap, subst, arith}
 use Rattle.call_turns.specs.Answers.{FitsAnswer}
-use Rattle.pmap_calls.proofs.Changes.{lost_none}
-use Rattle.byte_io.specs.Asking.{parts}
-use Rattle.byte_io.specs.Planning.{CanChange}
-use Rattle.byte_io.specs.Turning.{Stays}
-use Rattle.byte_io.proofs.JobParts.{all_same}
-use Rattle.byte_io.proofs.Parts.{behind_done, behind_other, end_fits, stays_so}
+use Rattle.ka10_spots.proofs.Stored.{lost_none}
+use Rattle.file_bytes.specs.Asking.{parts}
+use Rattle.file_bytes.specs.Planning.{CanChange}
+use Rattle.file_bytes.specs.Turning.{Stays}
+use Rattle.file_bytes.proofs.JobParts.{all_same}
+use Rattle.file_bytes.proofs.Parts.{behind_done, behind_other, end_fits, stays_so}
 use Rattle.byte_io.proofs.turn.end.Goals as goal
 
 pub returns-in-Done-clause-told : goal.returns-in-Done-clause-told

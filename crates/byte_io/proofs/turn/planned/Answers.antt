@@ -4,10 +4,10 @@ use Rattle.plain_model.specs.declared.call.TheConstants.{SFPTR, SIZEF, RFPTR, PB
 use Rattle.plain_model.specs.Calls.{ends}
 use Rattle.plain_units.specs.declared.channel.TheConstants.{ILLEGAL_INSTRUCTION}
 use Rattle.plain_model.specs.ByteCalls.{byte_call}
-use Rattle.byte_io.specs.Asking.{asked_on}
-use Rattle.byte_io.specs.Planning.{IsPlan}
-use Rattle.byte_io.proofs.Plans.{can_turn, ends_at_once}
-use Rattle.byte_io.proofs.Tests.{no_call}
+use Rattle.file_bytes.specs.Asking.{asked_on}
+use Rattle.file_bytes.specs.Planning.{IsPlan}
+use Rattle.file_bytes.proofs.Plans.{can_turn, ends_at_once}
+use Rattle.file_bytes.proofs.Tests.{no_call}
 use Rattle.byte_io.proofs.turn.planned.Goals as goal
 
 pub returns-in-23-clause-told : goal.returns-in-23-clause-told

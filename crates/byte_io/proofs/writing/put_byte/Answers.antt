@@ -17,11 +17,11 @@ use Rattle.call_turns.specs.Granting.{GrantsOr}
 use Rattle.call_turns.specs.Needing.{DrivenTo}
 use Rattle.call_turns.specs.Numbers.{by_number}
 use Rattle.call_turns.specs.Turns.{filling}
-use Rattle.pmap_calls.specs.Asking.{seen_in}
-use Rattle.byte_io.specs.Asking.{asked_on}
-use Rattle.byte_io.proofs.Plans.{ends_at_once}
+use Rattle.file_tables.specs.Keys.{seen_in}
+use Rattle.file_bytes.specs.Asking.{asked_on}
+use Rattle.file_bytes.proofs.Plans.{ends_at_once}
 use Rattle.byte_io.proofs.PutByte.{fill_needs, fills_so, made_is, no_place}
-use Rattle.byte_io.proofs.Tests.{is_below, not_below}
+use Rattle.file_bytes.proofs.Tests.{is_below, not_below}
 use Rattle.byte_io.proofs.writing.put_byte.Goals as goal
 
 pub returns-then-jfn-most_bytes-clause-told : goal.returns-then-jfn-most_bytes-clause-told

@@ -6,7 +6,7 @@ use Rattle.plain_units.specs.declared.channel.TheConstants.{ILLEGAL_INSTRUCTION}
 use Rattle.plain_model.specs.Calls.{ends, turn_on}
 use Rattle.plain_model.specs.FileCalls.{file_call, geter}
 use Rattle.call_turns.specs.declared.answer.Answer.TheVariants as answer
-use Rattle.fork_calls.specs.Asking.{asked}
+use Rattle.job_forks.specs.Asking.{asked}
 use Rattle.file_calls.specs.Answering.{Answers}
 use Rattle.file_calls.proofs.turn.call.Goals as goal
 

@@ -1,8 +1,8 @@
 use Rattle.std.proofs.Common.{subst}
 use Rattle.ka10_unit.proofs.Carried.{grows_none}
 use Rattle.fork_calls.specs.Steps.{IsChangeBelow}
-use Rattle.fork_calls.specs.Turning.{parts}
-use Rattle.fork_calls.proofs.CallLeaving.{below_others, none_leaves, places_leave}
+use Rattle.job_forks.specs.Holding.{parts}
+use Rattle.job_forks.proofs.CallLeaving.{below_others, none_leaves, places_leave}
 use Rattle.fork_calls.proofs.TurnBlocks.{nothing_changes}
 use Rattle.fork_calls.proofs.changing.change.Goals as goal
 

@@ -5,8 +5,7 @@ use Rattle.std.specs.FinMap as map
 use Rattle.plain_model.specs.Forks.{OthersStay}
 use Rattle.plain_model.specs.Trees.{PlainTree, end_told}
 use Rattle.fork_tree.proofs.Leaves.{inferior_lives}
-use Rattle.fork_calls.specs.Holding.{ComeFrom, SamePlaces}
-use Rattle.fork_calls.specs.Turning.{parts}
+use Rattle.job_forks.specs.Holding.{ComeFrom, SamePlaces, parts}
 use Rattle.fork_calls.proofs.Halting.{halt_changes, halt_is, halt_keeps, halt_others}
 use Rattle.fork_calls.proofs.changing.halt.Goals as goal
 

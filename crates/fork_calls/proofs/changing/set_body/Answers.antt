@@ -2,8 +2,8 @@ use Rattle.std.proofs.Common.{sym, subst}
 use Rattle.plain_model.specs.Forks.{OthersStay}
 use Rattle.plain_model.specs.Trees.{PlainTree, with_body}
 use Rattle.plain_model.proofs.OtherJobs.{named_others}
-use Rattle.fork_calls.specs.Holding.{ComeFrom, SamePlaces}
-use Rattle.fork_calls.proofs.Bodies.{body_changes, body_keeps}
+use Rattle.job_forks.specs.Holding.{ComeFrom, SamePlaces}
+use Rattle.job_forks.proofs.Bodies.{body_changes, body_keeps}
 use Rattle.fork_calls.proofs.changing.set_body.Goals as goal
 
 pub returns : goal.returns

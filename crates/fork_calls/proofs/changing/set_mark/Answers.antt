@@ -4,8 +4,8 @@ use Rattle.plain_model.specs.Forks.{OthersStay}
 use Rattle.plain_model.specs.Trees.{PlainTree, with_mark}
 use Rattle.plain_model.proofs.OtherJobs.{named_others}
 use Rattle.fork_tree.proofs.Leaves.{inferior_lives}
-use Rattle.fork_calls.specs.Holding.{ComeFrom, SamePlaces}
-use Rattle.fork_calls.proofs.Bodies.{mark_changes, mark_keeps}
+use Rattle.job_forks.specs.Holding.{ComeFrom, SamePlaces}
+use Rattle.job_forks.proofs.Bodies.{mark_changes, mark_keeps}
 use Rattle.fork_calls.proofs.changing.set_mark.Goals as goal
 
 pub freeze-requires : goal.freeze-requires

@@ -1,7 +1,7 @@
 use Rattle.std.proofs.Common.{refl, inl, sym, ◌∙◌, ap, subst}
 use Rattle.call_turns.specs.Answers.{AnswerNeeds, answer_of}
-use Rattle.fork_calls.specs.Turning.{parts}
-use Rattle.fork_calls.proofs.CallLeaving.{none_leaves}
+use Rattle.job_forks.specs.Holding.{parts}
+use Rattle.job_forks.proofs.CallLeaving.{none_leaves}
 use Rattle.fork_calls.proofs.Going.{ends_done, ends_so}
 use Rattle.fork_calls.proofs.Needed.{end_needs}
 use Rattle.fork_calls.proofs.ending.end.Goals as goal

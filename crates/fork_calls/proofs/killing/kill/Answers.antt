@@ -11,13 +11,12 @@ use Rattle.std.specs.FinMap as map
 use Rattle.fork_tree.proofs.Slots.{held_lives}
 use Rattle.fork_tree.proofs.Leaves.{inferior_lives}
 use Rattle.ka10_spots.proofs.Stored.{lost_on}
-use Rattle.fork_calls.specs.Holding.{TopsStay}
-use Rattle.fork_calls.specs.Turning.{parts}
-use Rattle.fork_calls.proofs.Branch.{below_younger, kill_changes, made_on}
-use Rattle.fork_calls.proofs.CallLeaving.{below_others, none_leaves}
-use Rattle.fork_calls.proofs.Holdings.{holds_same}
-use Rattle.fork_calls.proofs.Places.{Keep, come_on, still_living, waiters_keep}
-use Rattle.fork_calls.proofs.Tops.{below_low, gone_tops, same_tops, tops_on}
+use Rattle.job_forks.specs.Holding.{TopsStay, parts}
+use Rattle.job_forks.proofs.Branch.{below_younger, kill_changes, made_on}
+use Rattle.job_forks.proofs.CallLeaving.{below_others, none_leaves}
+use Rattle.job_forks.proofs.Holdings.{holds_same}
+use Rattle.job_forks.proofs.Places.{Keep, come_on, still_living, waiters_keep}
+use Rattle.job_forks.proofs.Tops.{below_low, gone_tops, same_tops, tops_on}
 use Rattle.fork_calls.proofs.killing.kill.Goals as goal
 
 pub ask_maps-requires-clause-lives : goal.ask_maps-requires-clause-lives

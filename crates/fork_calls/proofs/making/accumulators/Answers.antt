@@ -1,9 +1,9 @@
 use Rattle.std.proofs.Common.{ℕ, sym, ◌∙◌, subst}
 use Rattle.machine_names.specs.declared.names.Kind.TheVariants.{Read}
 use Rattle.ka10_unit.specs.Gathers.{framed}
-use Rattle.fork_calls.specs.Asking.{asked}
+use Rattle.job_forks.specs.Asking.{asked}
 use Rattle.fork_calls.specs.Blocks.{TookBlock}
-use Rattle.fork_calls.proofs.CallLeaving.{none_grown}
+use Rattle.job_forks.proofs.CallLeaving.{none_grown}
 use Rattle.fork_calls.proofs.TurnBlocks.{read_accumulators}
 use Rattle.fork_calls.proofs.making.accumulators.Goals as goal
 

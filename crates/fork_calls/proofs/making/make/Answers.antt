@@ -31,22 +31,21 @@ use Rattle.fork_tree.specs.Making.{AddsLast}
 use Rattle.fork_tree.specs.Trees.{AreSlotted, IsTree}
 use Rattle.fork_tree.proofs.Kept.{name_unused}
 use Rattle.fork_tree.proofs.Slots.{held_lives, some_of}
-use Rattle.fork_calls.specs.Asking.{asked}
-use Rattle.fork_calls.specs.Holding.{ComeOrNew, Holds, MakesPages, TopsStay}
+use Rattle.job_forks.specs.Asking.{asked}
+use Rattle.job_forks.specs.Holding.{ComeOrNew, Holds, MakesPages, TopsStay, parts}
 use Rattle.fork_calls.specs.Needing.{call_frames}
 use Rattle.fork_calls.specs.Steps.{made_where, second_regs}
-use Rattle.fork_calls.specs.Turning.{parts}
 use Rattle.fork_calls.proofs.Adding.{adds_made, adds_nobody}
 use Rattle.fork_calls.proofs.Added.{added_dropped, added_holds, back_holds, enough_room, few_forks, no_frame, no_room, not_there, room_told}
-use Rattle.fork_calls.proofs.Branch.{made_on, none_made}
-use Rattle.fork_calls.proofs.CallLeaving.{grown_leaves, none_grown}
+use Rattle.job_forks.proofs.Branch.{made_on, none_made}
+use Rattle.job_forks.proofs.CallLeaving.{grown_leaves, none_grown}
 use Rattle.fork_calls.proofs.Going.{goes, stops}
 use Rattle.fork_calls.proofs.Grown.{slot_told}
-use Rattle.fork_calls.proofs.Holdings.{grown_made, holds_still}
+use Rattle.job_forks.proofs.Holdings.{grown_made, holds_still}
 use Rattle.fork_calls.proofs.MadeTurns.{still_there, made_come, made_full, made_goes, made_new, made_stops, make_changes, wanted_new}
 use Rattle.fork_calls.proofs.Needed.{done_needs, dropped_needs}
-use Rattle.fork_calls.proofs.Places.{came_itself}
-use Rattle.fork_calls.proofs.Tops.{made_tops}
+use Rattle.job_forks.proofs.Places.{came_itself}
+use Rattle.job_forks.proofs.Tops.{made_tops}
 use Rattle.fork_calls.proofs.TurnBlocks.{turn_stops}
 use Rattle.fork_calls.proofs.making.make.Goals as goal
 

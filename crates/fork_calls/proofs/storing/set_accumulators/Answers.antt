@@ -9,13 +9,13 @@ use Rattle.plain_model.specs.ForkCalls.{address_named, with_accumulators_of}
 use Rattle.call_turns.specs.Answers.{AnswerNeeds, IsDone, answer_of}
 use Rattle.ka10_unit.specs.Gathers.{framed}
 use Rattle.ka10_unit.specs.Taking.{most_frames}
-use Rattle.fork_calls.specs.Asking.{asked}
+use Rattle.job_forks.specs.Asking.{asked}
 use Rattle.fork_calls.specs.Blocks.{GoesOn, TookBlock}
 use Rattle.fork_calls.specs.Steps.{set_end, whole}
-use Rattle.fork_calls.specs.Turning.{parts}
+use Rattle.job_forks.specs.Holding.{parts}
 use Rattle.fork_calls.specs.declared.step.FirstStep.TheVariants.{Sets}
-use Rattle.fork_calls.proofs.Branch.{none_made}
-use Rattle.fork_calls.proofs.CallLeaving.{below_others, grown_leaves, places_leave}
+use Rattle.job_forks.proofs.Branch.{none_made}
+use Rattle.job_forks.proofs.CallLeaving.{below_others, grown_leaves, places_leave}
 use Rattle.fork_calls.proofs.Needed.{done_needs, stop_needs}
 use Rattle.fork_calls.proofs.TurnBlocks.{block_goes, block_stops, turn_stops}
 use Rattle.fork_calls.proofs.storing.set_accumulators.Goals as goal

@@ -12,13 +12,13 @@ use Rattle.call_turns.specs.Answers.{AnswerNeeds, IsDone, answer_of}
 use Rattle.ka10_unit.proofs.Carried.{grows_more, grows_stored}
 use Rattle.ka10_unit.specs.Gathers.{framed}
 use Rattle.ka10_unit.specs.Taking.{most_frames}
-use Rattle.fork_calls.specs.Asking.{asked}
+use Rattle.job_forks.specs.Asking.{asked}
 use Rattle.fork_calls.specs.Blocks.{GoesOn, TookBlock}
 use Rattle.fork_calls.specs.Steps.{store_end, whole}
-use Rattle.fork_calls.specs.Turning.{parts}
+use Rattle.job_forks.specs.Holding.{parts}
 use Rattle.fork_calls.specs.declared.step.FirstStep.TheVariants.{Stores}
-use Rattle.fork_calls.proofs.Branch.{none_made}
-use Rattle.fork_calls.proofs.CallLeaving.{grown_leaves}
+use Rattle.job_forks.proofs.Branch.{none_made}
+use Rattle.job_forks.proofs.CallLeaving.{grown_leaves}
 use Rattle.fork_calls.proofs.Needed.{done_needs, stop_needs}
 use Rattle.fork_calls.proofs.TurnBlocks.{block_goes, block_stops, turn_stops, words_stored}
 use Rattle.fork_calls.proofs.storing.store_accumulators.Goals as goal

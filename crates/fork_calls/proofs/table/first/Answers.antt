@@ -1,4 +1,4 @@
-use Rattle.fork_calls.specs.Asking.{asked}
+use Rattle.job_forks.specs.Asking.{asked}
 use Rattle.fork_calls.proofs.table.first.Goals as goal
 
 pub returns-in-106-clause-fits : goal.returns-in-106-clause-fits

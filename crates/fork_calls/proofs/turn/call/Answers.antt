@@ -3,13 +3,13 @@ use Rattle.plain_model.specs.Calls.{Turn}
 use Rattle.plain_model.specs.declared.call.ForkChange.{ForkChange}
 use Rattle.plain_model.specs.ForkCalls.{fork_call}
 use Rattle.ka10_unit.specs.Taking.{most_frames}
-use Rattle.fork_calls.specs.Asking.{asked}
+use Rattle.job_forks.specs.Asking.{asked}
 use Rattle.fork_calls.specs.Needing.{call_frames}
 use Rattle.fork_calls.specs.Steps.{MakesOrFails, whole}
 use Rattle.fork_calls.specs.declared.step.FirstStep.TheVariants.{Ends}
 use Rattle.fork_calls.specs.Turning.{Turned}
 use Rattle.fork_calls.proofs.Adding.{adds_nobody}
-use Rattle.fork_calls.proofs.Holdings.{caller_serves, caller_terminal}
+use Rattle.job_forks.proofs.Holdings.{caller_serves, caller_terminal}
 use Rattle.fork_calls.proofs.Needed.{answer_more}
 use Rattle.fork_calls.proofs.turn.call.Goals as goal
 

@@ -2,7 +2,7 @@ use Rattle.std.proofs.Common.{subst}
 use Rattle.machine_names.specs.declared.names.ForkName.{ForkName}
 use Rattle.ka10_unit.specs.Carrying.{Grows}
 use Rattle.ka10_unit.specs.Gathers.{framed}
-use Rattle.fork_calls.proofs.CallLeaving.{none_grown}
+use Rattle.job_forks.proofs.CallLeaving.{none_grown}
 use Rattle.fork_calls.proofs.TurnBlocks.{took_goes, took_stops}
 use Rattle.fork_calls.proofs.words.block.Goals as goal
 

@@ -9,8 +9,8 @@ use Rattle.plain_model.proofs.ForkMaps.{get_gone, get_gone_other}
 use Rattle.plain_model.proofs.OtherJobs.{gone_others, others_on}
 use Rattle.fork_tree.proofs.Kept.{top_lives}
 use Rattle.ka10_spots.proofs.Stored.{lost_on}
-use Rattle.fork_calls.proofs.Branch.{made_on}
-use Rattle.fork_calls.proofs.Places.{come_on}
+use Rattle.job_forks.proofs.Branch.{made_on}
+use Rattle.job_forks.proofs.Places.{come_on}
 use Rattle.job_commands.proofs.Tops.{top_is}
 use Rattle.job_commands.proofs.leaving.log_out.Goals as goal
 

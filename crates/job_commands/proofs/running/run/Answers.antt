@@ -6,10 +6,10 @@ use Rattle.plain_model.proofs.OtherJobs.{named_others, others_itself, others_on}
 use Rattle.plain_model.specs.Commands.{begun_at}
 use Rattle.fork_tree.proofs.Slots.{held_lives}
 use Rattle.ka10_spots.proofs.Stored.{lost_none, lost_on}
-use Rattle.fork_calls.proofs.Branch.{made_on, none_made}
-use Rattle.fork_calls.proofs.Holdings.{grown_made, holds_same, holds_still}
-use Rattle.fork_calls.proofs.Places.{Keep, came_itself, changed_keeps, come_on}
-use Rattle.fork_calls.proofs.Tops.{same_tops, tops_on}
+use Rattle.job_forks.proofs.Branch.{made_on, none_made}
+use Rattle.job_forks.proofs.Holdings.{grown_made, holds_same, holds_still}
+use Rattle.job_forks.proofs.Places.{Keep, came_itself, changed_keeps, come_on}
+use Rattle.job_forks.proofs.Tops.{same_tops, tops_on}
 use Rattle.job_commands.proofs.Begun.{begun_mild}
 use Rattle.job_commands.proofs.running.run.Goals as goal
 

@@ -16,9 +16,9 @@ use Rattle.fork_tree.specs.Making.{AddsLast}
 use Rattle.fork_tree.specs.Trees.{IsTree, Lives}
 use Rattle.fork_tree.proofs.Slots.{get_put, in_tells, some_of}
 use Rattle.call_turns.specs.Answers.{AnswerNeeds, IsDone}
-use Rattle.fork_calls.specs.Holding.{CallLeaves}
-use Rattle.fork_calls.specs.Limits.{AreWithin, FitsForced, IsBody}
-use Rattle.file_calls.specs.Asking.{key_in}
+use Rattle.job_forks.specs.Holding.{CallLeaves}
+use Rattle.job_forks.specs.Limits.{AreWithin, FitsForced, IsBody}
+use Rattle.file_tables.specs.Keys.{key_of}
 use Rattle.monitor_calls.specs.Limits.{unit_frames}
 use Rattle.monitor_calls.specs.ForkUnit.{Kept, LeavesForks, Tables, TurnedSo, answered, answered_turn, called_behind, fork_of, out_in, parts_in, put_back, put_in, rest_of, turn_behind}
 use Rattle.monitor_calls.specs.Shown.{FitsShown, FitsStop, shown_of, stop_of}
@@ -141,10 +141,10 @@ returns-in-Some-body_mut-clause-called g c at b found =
           let q = g.P.Pages.means.plain c.turn-answer.new.pages d in
           let v = parts_in (rest_of tables) p in
           let w = parts_in (rest_of mid) q in
-          let turned : call_turned (key_in tables.files) v who f.body.regs number ≡ answered_turn w who answer =
-          subst (λ (x : Fork). call_turned (key_in tables.files) v who x.body.regs number ≡ answered_turn w who answer) same
-          (so_done (key_in tables.files) v w who c.in-Some.fork.now.body.regs number answer (done_else answer (λ n is. c.in_default-answer.not-Need n is)) (turn.told.told d drum)) in
-          let behind_is : called_behind (key_in tables.files) (rest_of tables) f p number ≡ turn_behind w (out_in answer) (answered k answer) =
+          let turned : call_turned (key_of tables.files) v who f.body.regs number ≡ answered_turn w who answer =
+          subst (λ (x : Fork). call_turned (key_of tables.files) v who x.body.regs number ≡ answered_turn w who answer) same
+          (so_done (key_of tables.files) v w who c.in-Some.fork.now.body.regs number answer (done_else answer (λ n is. c.in_default-answer.not-Need n is)) (turn.told.told d drum)) in
+          let behind_is : called_behind (key_of tables.files) (rest_of tables) f p number ≡ turn_behind w (out_in answer) (answered k answer) =
           ap (λ (r : Turned nat_cmp). turn_behind r.parts r.out (unwrap_or r.caller f)) turned
           ∙ ap (λ (o : Option Fork). turn_behind w (out_in answer) (unwrap_or (option_map (λ h. answered h answer) o) f)) stands.1 in
           let left_is : turn_behind w (out_in answer) (answered k answer) ≡ record { rest = put_in (rest_of mid) (with_body body k); fork = with_body body k; pages = q; shown = shown_of (out_in answer) body.status } =
@@ -174,7 +174,7 @@ returns-in-Need-clause-needs g c =
         each = λ d drum.
             let p = means.plain c.args.pages.now d in
             let q = means.plain c.turn-answer.new.pages d in
-            let same = subst (TurnedSo (key_in tables.files) (parts_in (rest_of tables) p) (parts_in (rest_of left) q) who c.in-Some.fork.now.body.regs c.args.number) c.in-Need.is (turn.told.told d drum) in
+            let same = subst (TurnedSo (key_of tables.files) (parts_in (rest_of tables) p) (parts_in (rest_of left) q) who c.in-Some.fork.now.body.regs c.args.number) c.in-Need.is (turn.told.told d drum) in
             (turn.told.fits d drum, ap (λ (v : Parts nat_cmp). v.tree) same, ap (λ (v : Parts nat_cmp). v.pages) same);
       };
       left = turn.leaves;

@@ -13,25 +13,26 @@ use Rattle.call_turns.specs.Answers.{IsDone}
 use Rattle.ka10_unit.specs.Gathers.{framed}
 use Rattle.file_tables.specs.declared.tables.FileTables.{FileTables}
 use Rattle.file_tables.specs.Tables.{files_of, open_of}
-use Rattle.file_calls.specs.Asking.{asked_of, key_in}
+use Rattle.file_calls.specs.Asking.{asked_of}
+use Rattle.file_tables.specs.Keys.{key_of}
 use Rattle.file_calls.specs.Turning.{Stays, TextNeeds}
-use Rattle.byte_io.specs.Asking.{asked_on}
-use Rattle.byte_io.specs.Turning.{ByteNeeds, Stays as StaysWhole}
+use Rattle.file_bytes.specs.Asking.{asked_on}
+use Rattle.file_bytes.specs.Turning.{ByteNeeds, Stays as StaysWhole}
 use Rattle.string_io.specs.Turning.{StringNeeds}
 use Rattle.plain_model.specs.Calls.{numbered}
 use Rattle.plain_model.specs.InterruptCalls.{interrupt_calls}
-use Rattle.fork_calls.specs.Asking.{asked as asked_by}
+use Rattle.job_forks.specs.Asking.{asked as asked_by}
 use Rattle.psi_calls.specs.Turning.{PsiNeeds, Stays as StaysAll, psi_frames}
 use Rattle.fork_tree.proofs.Slots.{some_of}
-use Rattle.fork_calls.specs.Holding.{CallLeaves, Holds, SamePlaces}
-use Rattle.fork_calls.proofs.Branch.{none_made}
-use Rattle.fork_calls.proofs.CallLeaving.{grown_leaves}
+use Rattle.job_forks.specs.Holding.{CallLeaves, Holds, SamePlaces}
+use Rattle.job_forks.proofs.Branch.{none_made}
+use Rattle.job_forks.proofs.CallLeaving.{grown_leaves}
 use Rattle.fork_calls.proofs.Needed.{answer_more, done_needs}
 use Rattle.pmap_calls.specs.Asking.{asked}
 use Rattle.pmap_calls.specs.Making.{MapNeeds}
 use Rattle.monitor_calls.proofs.CodeTurns.{fork_turned, has_codes, interrupt_turned, typed_stay}
 use Rattle.monitor_calls.proofs.ReachDid.{clocks_reach, forks_reach, interrupts_reach, made_among, made_is}
-use Rattle.fork_calls.proofs.Holdings.{holds_same}
+use Rattle.job_forks.proofs.Holdings.{holds_same}
 use Rattle.plain_model.specs.Forks.{ForkMap}
 use Rattle.plain_model.specs.declared.fork.Fork.{Fork}
 use Rattle.std.specs.FinMap as map
@@ -77,8 +78,8 @@ returns-then-is_print_call-clause-told g c =
       fits = λ d fits. fits;
       told = λ d fits.
           let p = g.P.Pages.means.plain c.args.pages.now d in
-          done_so (key_in was.files) _ _ c.args.who c.args.regs.now c.args.number c.print_call.result c.print_call.ensures.done
-          (print_went (key_in was.files) (parts_in (rest_of was) p) c.args.who c.args.regs.now c.args.number (sym c.is_print_call.ensures ∙ c.if-is_print_call.true) c.print_call.result (c.print_call.ensures.told p));
+          done_so (key_of was.files) _ _ c.args.who c.args.regs.now c.args.number c.print_call.result c.print_call.ensures.done
+          (print_went (key_of was.files) (parts_in (rest_of was) p) c.args.who c.args.regs.now c.args.number (sym c.is_print_call.ensures ∙ c.if-is_print_call.true) c.print_call.result (c.print_call.ensures.told p));
       numbers = λ d fits. dir_stays was.files was.files refl;
     }
 
@@ -179,8 +180,8 @@ returns-then-is_clock_call-clause-told g c =
       told = λ d fits.
           let p = means.plain c.args.pages.now d in
           let v = parts_in (rest_of was) p in
-          done_so (key_in was.files) v (record v { tree = call.new.tree }) c.args.who c.args.regs.now c.args.number call.result call.ensures.done
-          (clock_went (key_in was.files) v c.args.who c.args.regs.now c.args.number (sym c.is_print_call.ensures ∙ c.if-is_print_call.false) (sym c.is_fork_call.ensures ∙ c.if-is_fork_call.false) (sym c.is_psi_call.ensures ∙ c.if-is_psi_call.false) (sym c.is_clock_call.ensures ∙ c.if-is_clock_call.true) call.new.tree call.result (call.ensures.told p));
+          done_so (key_of was.files) v (record v { tree = call.new.tree }) c.args.who c.args.regs.now c.args.number call.result call.ensures.done
+          (clock_went (key_of was.files) v c.args.who c.args.regs.now c.args.number (sym c.is_print_call.ensures ∙ c.if-is_print_call.false) (sym c.is_fork_call.ensures ∙ c.if-is_fork_call.false) (sym c.is_psi_call.ensures ∙ c.if-is_psi_call.false) (sym c.is_clock_call.ensures ∙ c.if-is_clock_call.true) call.new.tree call.result (call.ensures.told p));
       numbers = λ d fits. dir_stays was.files was.files refl;
     }
 
@@ -237,8 +238,8 @@ returns-then-is_file_call-clause-told g c =
       fits = λ d fits. fits;
       told = λ d fits.
           let p = g.P.Pages.means.plain c.args.pages.now d in
-          done_so (key_in was.files) _ _ c.args.who c.args.regs.now c.args.number a.result a.ensures.done
-          (files_went (key_in was.files) (parts_in (rest_of was) p) c.args.who c.args.regs.now c.args.number (sym c.is_print_call.ensures ∙ c.if-is_print_call.false) (sym c.is_fork_call.ensures ∙ c.if-is_fork_call.false) (sym c.is_psi_call.ensures ∙ c.if-is_psi_call.false) (sym c.is_clock_call.ensures ∙ c.if-is_clock_call.false) (sym c.is_map_call.ensures ∙ c.if-is_map_call.false) (sym c.is_file_call.ensures ∙ c.if-is_file_call.true)
+          done_so (key_of was.files) _ _ c.args.who c.args.regs.now c.args.number a.result a.ensures.done
+          (files_went (key_of was.files) (parts_in (rest_of was) p) c.args.who c.args.regs.now c.args.number (sym c.is_print_call.ensures ∙ c.if-is_print_call.false) (sym c.is_fork_call.ensures ∙ c.if-is_fork_call.false) (sym c.is_psi_call.ensures ∙ c.if-is_psi_call.false) (sym c.is_clock_call.ensures ∙ c.if-is_clock_call.false) (sym c.is_map_call.ensures ∙ c.if-is_map_call.false) (sym c.is_file_call.ensures ∙ c.if-is_file_call.true)
           a.result (a.ensures.told p));
       numbers = λ d fits. dir_stays was.files was.files refl;
     }
@@ -255,7 +256,7 @@ returns-clause-told g c =
     record {
       fits = λ d fits. fits;
       told = λ d fits.
-          none_went (key_in was.files) (parts_in (rest_of was) (g.P.Pages.means.plain c.args.pages.now d)) c.args.who c.args.regs.now c.args.number (sym c.is_print_call.ensures ∙ c.if-is_print_call.false) (sym c.is_fork_call.ensures ∙ c.if-is_fork_call.false) (sym c.is_psi_call.ensures ∙ c.if-is_psi_call.false) (sym c.is_clock_call.ensures ∙ c.if-is_clock_call.false) (sym c.is_map_call.ensures ∙ c.if-is_map_call.false)
+          none_went (key_of was.files) (parts_in (rest_of was) (g.P.Pages.means.plain c.args.pages.now d)) c.args.who c.args.regs.now c.args.number (sym c.is_print_call.ensures ∙ c.if-is_print_call.false) (sym c.is_fork_call.ensures ∙ c.if-is_fork_call.false) (sym c.is_psi_call.ensures ∙ c.if-is_psi_call.false) (sym c.is_clock_call.ensures ∙ c.if-is_clock_call.false) (sym c.is_map_call.ensures ∙ c.if-is_map_call.false)
           (sym c.is_file_call.ensures ∙ c.if-is_file_call.false) (sym c.is_jfn_call.ensures ∙ c.if-is_jfn_call.false) (sym c.is_byte_call.ensures ∙ c.if-is_byte_call.false) (sym c.is_string_call.ensures ∙ c.if-is_string_call.false);
       numbers = λ d fits. dir_stays was.files was.files refl;
     }

@@ -11,9 +11,9 @@ use Rattle.plain_model.specs.Trees.{PlainTree, with_body}
 use Rattle.fork_tree.specs.Changes.{body_in, with_body_at}
 use Rattle.fork_tree.specs.Trees.{IsTree, Lives}
 use Rattle.fork_tree.proofs.Slots.{get_put, in_tells, some_of}
-use Rattle.fork_calls.specs.Holding.{Holds}
-use Rattle.fork_calls.specs.Limits.{AreWithin}
-use Rattle.fork_calls.proofs.Holdings.{holds_still}
+use Rattle.job_forks.specs.Holding.{Holds}
+use Rattle.job_forks.specs.Limits.{AreWithin}
+use Rattle.job_forks.proofs.Holdings.{holds_still}
 use Rattle.monitor_calls.specs.Limits.{CanUnit}
 use Rattle.monitor_calls.specs.Writing.{Makes}
 use Rattle.monitor_calls.specs.ForkUnit.{CallWaits, FitsLast, HasRoom, IsMet, IsRow, LastNeeds, Kept, LeavesForks, Place, Ran, RanUnits, Tables, called_behind, fork_of, makings_of, put_back, rest_of}
@@ -27,7 +27,7 @@ use Rattle.monitor_calls.specs.declared.units.Reach.TheVariants.{Own}
 use Rattle.monitor_calls.proofs.ReachDid.{own_then, reaches_others, slot_reaches}
 use Rattle.monitor_calls.proofs.Stopping.{StopsBehind, with_tree, before_few, before_reach, before_some, call_stops, stops_ran, stops_waits, unit_stops}
 use Rattle.monitor_calls.proofs.UnitRan.{call_behind}
-use Rattle.file_calls.specs.Asking.{key_in}
+use Rattle.file_tables.specs.Keys.{key_of}
 use Rattle.monitor_calls.proofs.units.units_of.Goals as goal
 
 -- where a fork stands
@@ -130,7 +130,7 @@ returns-in-Shows-clause-ran g c at b there =
           let p = g.P.Pages.means.plain c.args.pages.now d in
           let q = g.P.Pages.means.plain c.run_units-row.new.pages d in
           let t = ran.told d drum in
-          (t.0, subst (λ x. RanUnits (key_in was.files) (rest_of was) f p row.count (record { rest = rest_of (record was { tree = x }); fork = after; pages = q; shown = c.in-Shows.shown })) (sym left) (subst (IsRow f p row.count after q) c.in-Shows.is t.1 (key_in was.files) (rest_of was)));
+          (t.0, subst (λ x. RanUnits (key_of was.files) (rest_of was) f p row.count (record { rest = rest_of (record was { tree = x }); fork = after; pages = q; shown = c.in-Shows.shown })) (sym left) (subst (IsRow f p row.count after q) c.in-Shows.is t.1 (key_of was.files) (rest_of was)));
       numbers = λ d drum. dir_stays was.files was.files refl;
       unheld = c.requires.job.unheld;
       typing_room = c.requires.job.typing_room;
@@ -165,7 +165,7 @@ returns-in-Ok-clause-ran g c at b there =
           let t = ran.told d drum in
           let made = called.told d t.0 in
           let row_is = subst (IsRow f p row.count mid q) c.in-Calls.is t.1 in
-          (made.0, call_behind (key_in was.files) (rest_of was) f p row.count row_is.0.alone mid q c.in-Calls.number _ row_is.0 row_is.1 (ap (λ (x : PlainTree). called_behind (key_in was.files) (rest_of (record was { tree = x })) mid q c.in-Calls.number) (sym left) ∙ made.1));
+          (made.0, call_behind (key_of was.files) (rest_of was) f p row.count row_is.0.alone mid q c.in-Calls.number _ row_is.0 row_is.1 (ap (λ (x : PlainTree). called_behind (key_of was.files) (rest_of (record was { tree = x })) mid q c.in-Calls.number) (sym left) ∙ made.1));
       numbers = λ d drum. called.numbers d (ran.told d drum).0;
       unheld = called.unheld;
       typing_room = called.typing_room;

@@ -2,7 +2,8 @@ use Rattle.std.proofs.Common.{◌∙◌, ap}
 use Rattle.plain_model.specs.Calls.{given}
 use Rattle.plain_model.specs.MapCalls.{access_at, on_page, place_of}
 use Rattle.call_turns.specs.Numbers.{numbered_turn}
-use Rattle.pmap_calls.specs.Asking.{asked, key_of}
+use Rattle.pmap_calls.specs.Asking.{asked}
+use Rattle.file_tables.specs.Keys.{key_of}
 use Rattle.pmap_calls.proofs.calls.rpacs.Goals as goal
 
 pub returns-in-Ok-clause-turn : goal.returns-in-Ok-clause-turn

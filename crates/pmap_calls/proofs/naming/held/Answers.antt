@@ -1,4 +1,4 @@
-use Rattle.pmap_calls.proofs.Known.{held_known}
+use Rattle.file_tables.proofs.Known.{held_known}
 use Rattle.pmap_calls.proofs.naming.held.Goals as goal
 
 pub returns-clause-known : goal.returns-clause-known

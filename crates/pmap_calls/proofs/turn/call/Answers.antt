@@ -1,6 +1,7 @@
 use Rattle.std.proofs.Common.{inl}
-use Rattle.pmap_calls.specs.Asking.{asked, seen_in}
-use Rattle.pmap_calls.proofs.Changes.{lost_none}
+use Rattle.pmap_calls.specs.Asking.{asked}
+use Rattle.file_tables.specs.Keys.{seen_in}
+use Rattle.ka10_spots.proofs.Stored.{lost_none}
 use Rattle.pmap_calls.proofs.Turning.{ends_so, waits_so}
 use Rattle.pmap_calls.proofs.turn.call.Goals as goal
 

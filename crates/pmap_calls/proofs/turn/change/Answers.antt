@@ -1,9 +1,10 @@
 use Rattle.std.proofs.Common.{subst}
 use Rattle.plain_model.specs.declared.call.MapChange.TheVariants.{Unmap, Follow, Narrow, Put, Drop}
 use Rattle.call_turns.specs.Granting.{pages_granted}
-use Rattle.pmap_calls.specs.Asking.{key_of}
+use Rattle.file_tables.specs.Keys.{key_of}
 use Rattle.pmap_calls.specs.Stages.{IsMapChange}
-use Rattle.pmap_calls.proofs.Changes.{drop_made, drop_so, follow_made, follow_so, lost_none, map_so, narrow_made, narrow_so, nothing_made, nothing_so, put_made, put_so, unmap_made, unmap_so}
+use Rattle.pmap_calls.proofs.Changes.{drop_made, drop_so, follow_made, follow_so, map_so, narrow_made, narrow_so, nothing_made, nothing_so, put_made, put_so, unmap_made, unmap_so}
+use Rattle.ka10_spots.proofs.Stored.{lost_none}
 use Rattle.pmap_calls.proofs.turn.change.Goals as goal
 
 pub returns-in-Nothing-clause-told : goal.returns-in-Nothing-clause-told

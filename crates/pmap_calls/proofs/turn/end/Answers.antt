@@ -1,10 +1,11 @@
 use Rattle.std.proofs.Common.{◌∙◌, sym, subst, inl}
 use Rattle.call_turns.specs.Answers.{AnswerNeeds, FitsAnswer, IsDone}
 use Rattle.call_turns.specs.Granting.{pages_granted}
-use Rattle.pmap_calls.specs.Asking.{key_of}
-use Rattle.pmap_calls.specs.Making.{MakesIn}
+use Rattle.file_tables.specs.Keys.{key_of}
+use Rattle.call_turns.specs.Making.{MakesIn}
 use Rattle.pmap_calls.specs.Stages.{IsMapChange}
-use Rattle.pmap_calls.proofs.Changes.{behind_done, behind_other, end_done, end_fits, end_makes, end_needs, lost_none}
+use Rattle.pmap_calls.proofs.Changes.{behind_done, behind_other, end_done, end_fits, end_makes, end_needs}
+use Rattle.ka10_spots.proofs.Stored.{lost_none}
 use Rattle.pmap_calls.proofs.turn.end.Goals as goal
 
 pub returns-in-Ok-clause-told : goal.returns-in-Ok-clause-told

@@ -1,4 +1,4 @@
-use Rattle.pmap_calls.proofs.Changes.{lost_none}
+use Rattle.ka10_spots.proofs.Stored.{lost_none}
 use Rattle.pmap_calls.proofs.turn.make.Goals as goal
 
 pub returns-in-Nothing-clause-loses : goal.returns-in-Nothing-clause-loses

@@ -4,7 +4,8 @@ use Rattle.plain_pages.specs.NewEntries.{changed}
 use Rattle.plain_pages.specs.declared.map.NewEntry.TheVariants.{FilePage}
 use Rattle.page_contracts.specs.Stores.{traffic}
 use Rattle.page_contracts.proofs.Losing.{loses_on}
-use Rattle.pmap_calls.proofs.Changes.{granted_maps, lost_none, needs_none, still_none}
+use Rattle.pmap_calls.proofs.Changes.{granted_maps, needs_none, still_none}
+use Rattle.ka10_spots.proofs.Stored.{lost_none}
 use Rattle.pmap_calls.proofs.turn.map_page.Goals as goal
 
 pub returns-in-Ok-clause-told : goal.returns-in-Ok-clause-told

@@ -1,4 +1,5 @@
-use Rattle.pmap_calls.proofs.Changes.{absent_not, lost_none, missing_stays}
+use Rattle.pmap_calls.proofs.Changes.{absent_not, missing_stays}
+use Rattle.ka10_spots.proofs.Stored.{lost_none}
 use Rattle.pmap_calls.proofs.turn.put_entry.Goals as goal
 
 pub returns-in-Missing-clause-told : goal.returns-in-Missing-clause-told

@@ -1,4 +1,4 @@
-use Rattle.pmap_calls.proofs.Changes.{lost_none}
+use Rattle.ka10_spots.proofs.Stored.{lost_none}
 use Rattle.pmap_calls.proofs.Same.{none_changed}
 use Rattle.pmap_calls.proofs.turn.put_file_page.Goals as goal
 

@@ -1,4 +1,4 @@
-use Rattle.pmap_calls.proofs.Changes.{lost_none}
+use Rattle.ka10_spots.proofs.Stored.{lost_none}
 use Rattle.pmap_calls.proofs.turn.set.Goals as goal
 
 pub returns-in-Err-clause-loses : goal.returns-in-Err-clause-loses

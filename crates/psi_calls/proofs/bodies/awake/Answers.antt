@@ -1,6 +1,6 @@
 use Rattle.std.proofs.Common.{sym, subst}
 use Rattle.script_texts.specs.declared.status.ForkStatus.{ForkStatus}
-use Rattle.fork_calls.specs.Limits.{IsBody}
+use Rattle.job_forks.specs.Limits.{IsBody}
 use Rattle.psi_calls.proofs.Woken.{woken_within}
 use Rattle.psi_calls.proofs.bodies.awake.Goals as goal
 

@@ -6,7 +6,7 @@ use Rattle.plain_model.specs.declared.call.InterruptChange.{InterruptChange}
 use Rattle.plain_model.specs.declared.fork.Fork.{Fork}
 use Rattle.plain_model.specs.Calls.{ends, given, returning}
 use Rattle.plain_model.specs.ForkCalls.{own_named}
-use Rattle.fork_calls.specs.Asking.{asked}
+use Rattle.job_forks.specs.Asking.{asked}
 use Rattle.psi_calls.specs.Steps.{posts_to}
 use Rattle.psi_calls.proofs.calls.iic.Goals as goal
 

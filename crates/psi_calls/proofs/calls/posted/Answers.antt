@@ -1,7 +1,7 @@
 use Rattle.std.proofs.Common.{sym, ap, subst}
 use Rattle.plain_model.specs.declared.fork.Body.{Body}
 use Rattle.plain_model.specs.declared.fork.Fork.{Fork}
-use Rattle.fork_calls.specs.Steps.{IsBodyOf}
+use Rattle.job_forks.specs.Limits.{IsBodyOf}
 use Rattle.psi_calls.proofs.PostedKeeps.{word_fits}
 use Rattle.psi_calls.proofs.calls.posted.Goals as goal
 

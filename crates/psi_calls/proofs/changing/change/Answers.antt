@@ -3,8 +3,8 @@ use Rattle.plain_model.specs.Forks.{OthersStay}
 use Rattle.plain_model.specs.Interrupts.{channels_of}
 use Rattle.plain_model.specs.Trees.{PlainTree, with_body}
 use Rattle.plain_model.proofs.OtherJobs.{named_others, others_alike, others_itself, posted_others}
-use Rattle.fork_calls.proofs.Bodies.{body_keeps}
-use Rattle.fork_calls.proofs.Places.{Keep, keep_itself}
+use Rattle.job_forks.proofs.Bodies.{body_keeps}
+use Rattle.job_forks.proofs.Places.{Keep, keep_itself}
 use Rattle.psi_calls.specs.Steps.{IsChange}
 use Rattle.psi_calls.specs.Turning.{Changes}
 use Rattle.psi_calls.proofs.Changed.{assign_changes, become_changes, post_changes, unassign_changes}

@@ -9,11 +9,11 @@ use Rattle.plain_model.proofs.OtherJobs.{named_others}
 use Rattle.plain_model.specs.Trees.{PlainTree, with_body, with_changed_of}
 use Rattle.ka10_unit.specs.Carrying.{Grows}
 use Rattle.call_turns.specs.declared.answer.Answer.TheVariants.{After}
-use Rattle.fork_calls.specs.Asking.{asked}
-use Rattle.fork_calls.specs.Steps.{IsBodyOf}
-use Rattle.fork_calls.proofs.Bodies.{body_keeps}
-use Rattle.fork_calls.proofs.CallLeaving.{grown_leaves, none_grown, places_leave}
-use Rattle.fork_calls.proofs.Places.{Keep}
+use Rattle.job_forks.specs.Asking.{asked}
+use Rattle.job_forks.specs.Limits.{IsBodyOf}
+use Rattle.job_forks.proofs.Bodies.{body_keeps}
+use Rattle.job_forks.proofs.CallLeaving.{grown_leaves, none_grown, places_leave}
+use Rattle.job_forks.proofs.Places.{Keep}
 use Rattle.psi_calls.proofs.Ended.{stops_turned, went_turned}
 use Rattle.psi_calls.proofs.ending.dismiss.Goals as goal
 

@@ -1,8 +1,8 @@
 use Rattle.std.proofs.Common.{◌≡◌, sym, ◌∙◌, ap, subst}
 use Rattle.plain_model.specs.Calls.{ends, numbered}
 use Rattle.plain_model.specs.InterruptCalls.{InterruptTurn, interrupt_calls}
-use Rattle.fork_calls.specs.Asking.{asked}
-use Rattle.fork_calls.proofs.CallLeaving.{none_grown, places_leave}
+use Rattle.job_forks.specs.Asking.{asked}
+use Rattle.job_forks.proofs.CallLeaving.{none_grown, places_leave}
 use Rattle.psi_calls.specs.Steps.{whole}
 use Rattle.psi_calls.specs.Turning.{Turned}
 use Rattle.psi_calls.proofs.Ended.{ends_turned}

@@ -11,12 +11,12 @@ use Rattle.call_turns.specs.Answers.{FitsAnswer}
 use Rattle.ka10_unit.specs.Carrying.{Grows, StaysAway}
 use Rattle.ka10_unit.specs.Gathers.{Framed, framed}
 use Rattle.ka10_unit.proofs.Carried.{grows_more, grows_none, grows_stored, grows_within, put_framed}
-use Rattle.pmap_calls.specs.Asking.{key_of}
-use Rattle.byte_io.specs.Asking.{parts}
-use Rattle.byte_io.specs.Planning.{pages_for}
-use Rattle.byte_io.specs.Turning.{Stays}
-use Rattle.byte_io.proofs.JobParts.{all_same}
-use Rattle.byte_io.proofs.Parts.{end_fits, stays_so}
+use Rattle.file_tables.specs.Keys.{key_of}
+use Rattle.file_bytes.specs.Asking.{parts}
+use Rattle.file_bytes.specs.Planning.{pages_for}
+use Rattle.file_bytes.specs.Turning.{Stays}
+use Rattle.file_bytes.proofs.JobParts.{all_same}
+use Rattle.file_bytes.proofs.Parts.{end_fits, stays_so}
 use Rattle.string_io.specs.Depositing.{pages_planned}
 use Rattle.string_io.specs.Planning.{CanEnd}
 use Rattle.string_io.proofs.Carried.{behind_done, behind_other, live_put, made_grows, opens_done}

@@ -1,6 +1,6 @@
 use Rattle.std.proofs.Common.{◌≡◌, true, false, Some, inl, sym, ◌∙◌, subst}
-use Rattle.pmap_calls.proofs.Changes.{lost_none}
-use Rattle.pmap_calls.proofs.Known.{held_known}
+use Rattle.ka10_spots.proofs.Stored.{lost_none}
+use Rattle.file_tables.proofs.Known.{held_known}
 use Rattle.string_io.specs.Carrying.{Opens}
 use Rattle.string_io.proofs.carrying.change_where_open.Goals as goal
 

@@ -8,8 +8,8 @@ use Rattle.plain_model.specs.StringCalls.{next_pointer, prints_byte}
 use Rattle.call_turns.specs.Turns.{FitsEnd}
 use Rattle.ka10_unit.specs.Gathers.{framed}
 use Rattle.text_pointers.specs.Reading.{ReadsByte}
-use Rattle.byte_io.specs.Asking.{asked_on}
-use Rattle.byte_io.specs.Planning.{CanTurn}
+use Rattle.file_bytes.specs.Asking.{asked_on}
+use Rattle.file_bytes.specs.Planning.{CanTurn}
 use Rattle.string_io.proofs.Planned.{byte_plans, byte_stops, fits_end}
 use Rattle.string_io.proofs.printing.prints.Goals as goal
 

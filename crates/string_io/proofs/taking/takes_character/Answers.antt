@@ -5,8 +5,8 @@ use Rattle.plain_model.specs.Calls.{ends}
 use Rattle.plain_model.specs.StringCalls.{takes_character, takes_next}
 use Rattle.call_turns.specs.Turns.{FitsEnd}
 use Rattle.ka10_unit.proofs.Adding.{sound_as}
-use Rattle.byte_io.specs.Asking.{asked_on}
-use Rattle.byte_io.specs.Planning.{CanTurn}
+use Rattle.file_bytes.specs.Asking.{asked_on}
+use Rattle.file_bytes.specs.Planning.{CanTurn}
 use Rattle.string_io.proofs.Planned.{once_plans, plans_by}
 use Rattle.string_io.proofs.Taken.{none_stored, oldest_taken}
 use Rattle.string_io.proofs.taking.takes_character.Goals as goal

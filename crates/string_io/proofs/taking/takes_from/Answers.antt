@@ -16,11 +16,11 @@ use Rattle.call_turns.proofs.Looks.{needed_is, told_is}
 use Rattle.ka10_unit.specs.Gathers.{framed}
 use Rattle.ka10_unit.proofs.Adding.{sound_as}
 use Rattle.ka10_unit.specs.declared.taken.Stop.TheVariants.{Need}
-use Rattle.pmap_calls.specs.Asking.{key_of}
-use Rattle.byte_io.specs.Asking.{IsOpenAs, asked_on}
-use Rattle.byte_io.specs.Planning.{CanTurn}
-use Rattle.byte_io.proofs.Ending.{can_move}
-use Rattle.byte_io.proofs.Tests.{is_beyond, is_within}
+use Rattle.file_tables.specs.Keys.{key_of}
+use Rattle.file_bytes.specs.Asking.{IsOpenAs, asked_on}
+use Rattle.file_bytes.specs.Planning.{CanTurn}
+use Rattle.file_bytes.proofs.Ending.{can_move}
+use Rattle.file_bytes.proofs.Tests.{is_beyond, is_within}
 use Rattle.string_io.specs.Planning.{IsPlan}
 use Rattle.string_io.proofs.Planned.{fits_end, once_plans, read_needs, read_planned}
 use Rattle.string_io.proofs.Taken.{at_its_end, before_end}

@@ -4,7 +4,7 @@ use Rattle.plain_units.specs.declared.registers.Regs.{Regs}
 use Rattle.plain_model.specs.StringCalls.{behind_byte, next_pointer}
 use Rattle.call_turns.specs.Turns.{FitsEnd}
 use Rattle.ka10_unit.specs.Gathers.{framed}
-use Rattle.byte_io.specs.Planning.{CanTurn}
+use Rattle.file_bytes.specs.Planning.{CanTurn}
 use Rattle.string_io.specs.declared.plan.Plan.{Plan}
 use Rattle.string_io.specs.Depositing.{Deposits}
 use Rattle.string_io.proofs.Planned.{deposit_plans, fits_one, result_fits}

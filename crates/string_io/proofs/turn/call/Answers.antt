@@ -3,7 +3,7 @@ use Rattle.machine_names.specs.declared.names.ForkName.{ForkName}
 use Rattle.plain_model.specs.StringCalls.{string_call}
 use Rattle.ka10_unit.proofs.Carried.{grows_none, grows_within}
 use Rattle.ka10_unit.specs.Gathers.{framed}
-use Rattle.byte_io.specs.Asking.{asked_on}
+use Rattle.file_bytes.specs.Asking.{asked_on}
 use Rattle.string_io.specs.Depositing.{CanCarry, pages_planned}
 use Rattle.string_io.specs.Planning.{OpensEnd}
 use Rattle.string_io.proofs.Turns.{stops_so, went}

@@ -3,8 +3,8 @@ use Rattle.plain_model.specs.Calls.{ends}
 use Rattle.plain_model.specs.StringCalls.{string_call}
 use Rattle.call_turns.specs.Turns.{FitsEnd}
 use Rattle.ka10_unit.proofs.Adding.{sound_as}
-use Rattle.byte_io.specs.Asking.{asked_on}
-use Rattle.byte_io.specs.Planning.{CanTurn}
+use Rattle.file_bytes.specs.Asking.{asked_on}
+use Rattle.file_bytes.specs.Planning.{CanTurn}
 use Rattle.string_io.specs.Planning.{Plans}
 use Rattle.string_io.proofs.Planned.{once_plans}
 use Rattle.string_io.proofs.Turns.{no_call}

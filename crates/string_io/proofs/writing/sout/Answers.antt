@@ -10,9 +10,9 @@ use Rattle.plain_model.specs.ByteCalls.{ByteAsked, jfn_number, jfn_open}
 use Rattle.plain_model.specs.StringCalls.{prints_byte, sout, with_next}
 use Rattle.call_turns.specs.Turns.{FitsEnd}
 use Rattle.ka10_unit.proofs.Adding.{sound_as}
-use Rattle.byte_io.specs.Asking.{asked_on}
-use Rattle.byte_io.specs.Planning.{CanTurn}
-use Rattle.byte_io.proofs.Tests.{at_file, at_input, at_output}
+use Rattle.file_bytes.specs.Asking.{asked_on}
+use Rattle.file_bytes.specs.Planning.{CanTurn}
+use Rattle.file_bytes.proofs.Tests.{at_file, at_input, at_output}
 use Rattle.string_io.specs.Writing.{writes_to}
 use Rattle.string_io.proofs.Planned.{once_plans, plans_by}
 use Rattle.string_io.proofs.writing.sout.Goals as goal

@@ -11,8 +11,8 @@ use Rattle.call_turns.specs.Turns.{FitsEnd}
 use Rattle.ka10_unit.specs.Gathers.{framed}
 use Rattle.page_contracts.specs.DrumWords.{DrumWords}
 use Rattle.text_pointers.specs.Reading.{ReadsByte}
-use Rattle.byte_io.specs.Asking.{IsOpenAs, asked_on}
-use Rattle.byte_io.specs.Planning.{CanTurn}
+use Rattle.file_bytes.specs.Asking.{IsOpenAs, asked_on}
+use Rattle.file_bytes.specs.Planning.{CanTurn}
 use Rattle.string_io.proofs.Planned.{byte_plans}
 use Rattle.string_io.proofs.Written.{ends_so, write_plans, write_stops}
 use Rattle.string_io.proofs.writing.write_byte.Goals as goal

@@ -9,9 +9,9 @@ use Rattle.call_turns.specs.Turns.{FitsEnd}
 use Rattle.ka10_unit.specs.Gathers.{framed}
 use Rattle.ka10_unit.proofs.Adding.{sound_as}
 use Rattle.text_pointers.specs.Reading.{ReadsByte}
-use Rattle.byte_io.specs.Asking.{asked_on}
-use Rattle.byte_io.specs.Planning.{CanTurn}
-use Rattle.byte_io.proofs.Tests.{is_below, not_below}
+use Rattle.file_bytes.specs.Asking.{asked_on}
+use Rattle.file_bytes.specs.Planning.{CanTurn}
+use Rattle.file_bytes.proofs.Tests.{is_below, not_below}
 use Rattle.string_io.specs.Writing.{writes_to}
 use Rattle.string_io.proofs.Planned.{byte_stops, once_plans, plans_by}
 use Rattle.string_io.proofs.Written.{has_place, no_place}

@@ -3,7 +3,7 @@ use Rattle.std.specs.Prelude.{IsSome}
 use Rattle.std.specs.Option.{option_map_or}
 use Rattle.plain_model.specs.Commands.{resumed}
 use Rattle.plain_model.specs.Trees.{PlainTree, with_changed_of}
-use Rattle.fork_calls.proofs.Places.{Keep}
+use Rattle.job_forks.proofs.Places.{Keep}
 use Rattle.file_tables.specs.Tables.{open_of}
 use Rattle.job_commands.specs.Going.{can_continue}
 use Rattle.monitor_calls.specs.declared.job.Job.{Job}

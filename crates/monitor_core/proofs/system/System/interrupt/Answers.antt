@@ -1,7 +1,7 @@
 use Rattle.std.proofs.Common.{Some, set, refl, sym, ◌∙◌, ap, subst, length-set}
 use Rattle.std.specs.Prelude.{IsSome}
 use Rattle.plain_model.specs.Trees.{PlainTree}
-use Rattle.fork_calls.proofs.Places.{Keep}
+use Rattle.job_forks.proofs.Places.{Keep}
 use Rattle.file_tables.specs.Tables.{open_of}
 use Rattle.monitor_calls.specs.declared.job.Job.{Job}
 use Rattle.monitor_calls.specs.Typings.{new_typing}

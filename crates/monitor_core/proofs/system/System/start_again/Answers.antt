@@ -2,7 +2,7 @@ use Rattle.std.proofs.Common.{◌<◌, ◌^◌, Some, set, refl, sym, ◌∙◌,
 use Rattle.std.specs.Prelude.{IsSome}
 use Rattle.plain_model.specs.Commands.{restarted}
 use Rattle.plain_model.specs.Trees.{PlainTree, with_changed_of}
-use Rattle.fork_calls.proofs.Places.{Keep}
+use Rattle.job_forks.proofs.Places.{Keep}
 use Rattle.file_tables.specs.Tables.{open_of}
 use Rattle.monitor_calls.specs.declared.job.Job.{Job}
 use Rattle.monitor_core.proofs.CommandDid.{has_started, restarted_mild}

@@ -2,7 +2,7 @@ use Rattle.std.proofs.Common.{refl, sym, subst}
 use Rattle.plain_model.specs.Trees.{PlainTree}
 use Rattle.fork_tree.specs.Trees.{IsTree}
 use Rattle.fork_tree.proofs.Sleepers.{tree_awoken}
-use Rattle.fork_calls.proofs.Places.{Keep}
+use Rattle.job_forks.proofs.Places.{Keep}
 use Rattle.monitor_core.proofs.EventDid.{did_tick}
 use Rattle.monitor_core.proofs.HasDone.{sound_kept}
 use Rattle.monitor_core.proofs.Sleepers.{sleepers_keep}

@@ -6,7 +6,7 @@ use Rattle.monitor_core.specs.Echoes.{echo_items}
 use Rattle.plain_typing.specs.declared.typed.Typed.TheVariants.{Stored}
 use Rattle.plain_typing.specs.Characters.{read_as}
 use Rattle.plain_typing.specs.Typing.{fate_of, left_by}
-use Rattle.fork_calls.proofs.Places.{Keep}
+use Rattle.job_forks.proofs.Places.{Keep}
 use Rattle.monitor_calls.specs.Typings.{new_typing}
 use Rattle.monitor_core.proofs.CommandDid.{has_kept, has_shown, has_stopped, readers_keep}
 use Rattle.monitor_core.proofs.HasDone.{has_from, sound_kept}

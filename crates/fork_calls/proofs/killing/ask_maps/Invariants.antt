@@ -1,5 +1,0 @@
-use Rattle.fork_calls.proofs.Maps.{AreMapsHereBelow}
-use Rattle.fork_calls.proofs.killing.ask_maps.Given as goal
-
-abbrev pub invariant-loop-slot : goal.invariant-loop-slot
-invariant-loop-slot g l = record { so_far : AreMapsHereBelow (g.P.Pages.means.scene l.pages) l.tree.forks l.name l.slot }

@@ -1,0 +1,9 @@
+pub mod Counted
+pub mod Places
+pub mod Holdings
+pub mod Tops
+pub mod Maps
+pub mod CallLeaving
+pub mod Telling
+pub mod Branch
+pub mod Bodies

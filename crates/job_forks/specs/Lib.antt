@@ -1,0 +1,4 @@
+pub mod Limits
+pub mod Asking
+pub mod Holding
+pub mod Killing
