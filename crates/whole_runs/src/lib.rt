@@ -4,8 +4,6 @@
 #![tactic(auto)]
 
 #[cfg(test)]
-mod clock;
-#[cfg(test)]
 mod cuts;
 #[cfg(test)]
 mod failures;
@@ -16,13 +14,9 @@ mod files;
 #[cfg(test)]
 mod first;
 #[cfg(test)]
-mod interrupts;
-#[cfg(test)]
 mod laws;
 #[cfg(test)]
 mod limits;
-#[cfg(test)]
-mod mapped;
 #[cfg(test)]
 mod memory_run;
 #[cfg(test)]

@@ -140,24 +140,3 @@ pub(crate) fn assert_runs<R: Abort + AllocGlobal>(
     assert_ended(rt, &ran, Status::Done, transcript, record);
     same(rt, (ran.drum.reads(), ran.drum.writes()), (0, 0));
 }
-
-/// The words of a run, how many pages the drum has, and a script with both of its texts.
-#[derive(Clone, Copy)]
-pub(crate) struct WholeRun {
-    pub words: &'static [&'static str],
-    pub pages: u32,
-    pub script: &'static [u8],
-    pub transcript: &'static [u8],
-    pub record: &'static [u8],
-}
-
-impl WholeRun {
-    /// It runs to its end, and gives these texts.
-    pub(crate) fn assert_shows<R: Abort + AllocGlobal>(&self, rt: &R) {
-        let ran = made(
-            rt,
-            run_words(rt.alloc(), self.words, self.script, self.pages),
-        );
-        assert_ended(rt, &ran, Status::Done, self.transcript, self.record);
-    }
-}

@@ -13,7 +13,7 @@ fn ample_memory_is_enough(rt: HostRuntime) {
 }
 
 // Puts a number below 2^36 behind a text, in octal.
-pub(crate) fn push_octal(text: &mut Vec<u8>, number: u64) -> Result<(), AllocError> {
+fn push_octal(text: &mut Vec<u8>, number: u64) -> Result<(), AllocError> {
     for place in (0..12u32).rev() {
         let rest = number >> (place * 3);
         if rest > 0 || place == 0 {
