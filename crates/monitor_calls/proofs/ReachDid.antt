@@ -19,10 +19,11 @@ use Rattle.plain_model.proofs.OtherJobs.{named_others, others_alike, others_on, 
 use Rattle.fork_tree.specs.Changes.{with_body_at, with_body_of}
 use Rattle.fork_tree.specs.Making.{AddsBeside, AddsLast}
 use Rattle.monitor_calls.proofs.MadeBeside.{beside_last, beside_none, beside_others, body_then, then_body}
-use Rattle.monitor_calls.specs.Reaching.{Reaches, ReachesOwn, reach_of}
-use Rattle.monitor_calls.specs.Runners.{told_at, told_where}
-use Rattle.monitor_calls.specs.declared.units.Reach.{Reach}
-use Rattle.monitor_calls.specs.declared.units.Reach.TheVariants.{Own, Made, Job}
+use Rattle.step_shown.specs.Reaching.{Reaches, ReachesOwn}
+use Rattle.monitor_calls.specs.Reaching.{reach_of}
+use Rattle.step_shown.specs.Runners.{told_at, told_where}
+use Rattle.step_shown.specs.declared.reach.Reach.{Reach}
+use Rattle.step_shown.specs.declared.reach.Reach.TheVariants.{Own, Made, Job}
 
 -- nothing is changed
 pub others_same : (t : Tty) (old new : ForkMap) → new ≡ old → OthersStay t old new

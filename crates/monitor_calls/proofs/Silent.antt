@@ -13,7 +13,7 @@ use Rattle.plain_model.specs.Calls.{posted_if}
 use Rattle.plain_model.specs.Inspections.{is_interrupted}
 use Rattle.plain_units.specs.Units.{unit_on}
 use Rattle.ka10_spots.specs.Once.{After, once, in_a_row, unless_posted, went_through}
-use Rattle.monitor_calls.specs.Shown.{nothing}
+use Rattle.step_shown.specs.Shown.{nothing}
 use Rattle.monitor_calls.specs.ForkUnit.{Rest, behind, behind_instruction, behind_interrupted, behind_unit, left_so, post_shown}
 
 -- a unit that went through, and what it left

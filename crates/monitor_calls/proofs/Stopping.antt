@@ -25,10 +25,10 @@ use Rattle.file_tables.specs.Keys.{key_of}
 use Rattle.monitor_calls.specs.Limits.{unit_frames}
 use Rattle.monitor_calls.specs.Jobs.{AreUnheld}
 use Rattle.monitor_calls.specs.declared.typing.Typing.{Typing}
-use Rattle.monitor_calls.specs.declared.units.Reach.{Reach}
+use Rattle.step_shown.specs.declared.reach.Reach.{Reach}
 use Rattle.monitor_calls.specs.declared.units.Units.{Units}
 use Rattle.monitor_calls.specs.ForkUnit.{CallWaits, Kept, LeavesForks, RanUnits, RanUpTo, Rest, Tables, UnitWaits, UnitsRan, left_so, put_back, ran_on, rest_of}
-use Rattle.monitor_calls.specs.Shown.{nothing}
+use Rattle.step_shown.specs.Shown.{nothing}
 use Rattle.monitor_calls.specs.Writing.{Makes, most_makings}
 use Rattle.monitor_calls.proofs.JfnsAsked.{dir_stays}
 use Rattle.monitor_calls.proofs.Leaving.{came_less, leaves_one, leaves_then}

@@ -16,9 +16,9 @@ use Rattle.machine_names.proofs.OrderLemmas.{fork_cmp_total, fork_cmp_apart}
 use Rattle.plain_model.proofs.Posted.{posted_same}
 use Rattle.ka10_spots.specs.Once.{After, once, in_a_row}
 use Rattle.ka10_in_place.specs.Bursts.{and_one_more}
-use Rattle.monitor_calls.specs.Shown.{nothing}
+use Rattle.step_shown.specs.Shown.{nothing}
 use Rattle.monitor_calls.specs.ForkUnit.{Behind, IsCall, RanUnits, RanUpTo, Rest, behind, behind_instruction, behind_unit, called_behind, left_so, post_shown, put_in, ran_on}
-use Rattle.monitor_calls.specs.declared.shown.Shown.{Shown}
+use Rattle.step_shown.specs.declared.shown.Shown.{Shown}
 use Rattle.monitor_calls.proofs.Maps.{insert_twice}
 use Rattle.monitor_calls.proofs.Silent.{instruction_alone, once_as, row_more, silent_unit}
 

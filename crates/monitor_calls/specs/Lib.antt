@@ -1,10 +1,8 @@
 pub mod Limits
-pub mod Shown
 pub mod Typings
 pub mod Jobs
 pub mod Holding
 pub mod Writing
-pub mod Runners
 pub mod ForkUnit
 pub mod Sound
 pub mod Reaching

@@ -1,29 +1,12 @@
--- How far units reach among the forks, whatever a drum holds.
-use Rattle.std.specs.Prelude.{◌≡◌, ℕ, ◌==◌, ◌||◌, if◌then◌else◌}
-use Rattle.machine_names.specs.declared.names.ForkName.{ForkName}
+-- How far monitor calls reach among the forks.
+use Rattle.std.specs.Prelude.{ℕ, ◌==◌, ◌||◌, if◌then◌else◌}
 use Rattle.plain_model.specs.declared.call.TheConstants.{CFORK}
-use Rattle.plain_model.specs.declared.fork.Body.{Body}
 use Rattle.plain_model.specs.Calls.{is_among}
 use Rattle.plain_model.specs.ClockCalls.{clock_calls}
 use Rattle.plain_model.specs.ForkCalls.{fork_calls}
-use Rattle.plain_model.specs.Forks.{OthersStay}
 use Rattle.plain_model.specs.InterruptCalls.{interrupt_calls}
-use Rattle.plain_model.specs.Trees.{PlainTree}
-use Rattle.fork_tree.specs.Changes.{with_body_of}
-use Rattle.fork_tree.specs.Making.{AddsBeside}
-use Rattle.monitor_calls.specs.declared.units.Reach.{Reach}
-use Rattle.monitor_calls.specs.declared.units.Reach.TheVariants.{Own, Made, Job}
-
--- only this fork may stand otherwise, and of it no more than its body
-pub record ReachesOwn (who : ForkName) (old new : PlainTree) : Type 0 where
-  pub body : Body
-  pub left : new ≡ with_body_of old who body
-
--- so far a fork may have reached: only it may stand otherwise, or besides one fork more may be there, or only forks of its job may
-abbrev pub Reaches : Reach → ForkName → PlainTree → PlainTree → Type 0
-Reaches Own who old new = ReachesOwn who old new
-Reaches Made who old new = AddsBeside who old new
-Reaches Job who old new = OthersStay who.tty old.forks new.forks
+use Rattle.step_shown.specs.declared.reach.Reach.{Reach}
+use Rattle.step_shown.specs.declared.reach.Reach.TheVariants.{Own, Made, Job}
 
 -- how far a monitor call of this number may reach: CFORK makes a fork, and the other calls on forks, on interrupts and on the clock change forks
 abbrev pub reach_of : ℕ → Reach

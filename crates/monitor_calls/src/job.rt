@@ -2,9 +2,9 @@
 ghost use Rattle.std.specs.Prelude.{◌≡◌, IfOk, None, length};
 ghost use Rattle.machine_names.specs.Bounds.{IsTerminal};
 ghost use Rattle.monitor_calls.specs.Jobs.{jobs_left, no_jobs};
-ghost use Rattle.monitor_calls.specs.Shown.{is_stop, is_stopped, seen_of, seen_stop};
+ghost use Rattle.step_shown.specs.Shown.{is_stop, is_stopped, seen_of, seen_stop};
 
-use crate::shown::{Shown, Stop};
+use step_shown::{Shown, Stop};
 use machine_names::{DirName, ForkName, TERMINALS, Tty};
 use plain_model::TerminalMode;
 use std::alloc::{AllocError, Global};

@@ -5,17 +5,13 @@
 
 mod calls;
 mod job;
-mod runner;
-mod shown;
 mod typing;
 mod unit;
 mod units;
 mod writing;
 
 pub use job::{Job, empty_jobs, seen, seen_stop};
-pub use runner::Runner;
-pub use shown::{Shown, Stop};
 pub use typing::{Typing, empty_typings};
 pub use unit::channel_of;
-pub use units::{Reach, Units, units_of};
+pub use units::{Units, units_of};
 pub use writing::{Barred, write_row, write_word};

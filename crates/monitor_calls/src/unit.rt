@@ -10,10 +10,10 @@ ghost use Rattle.ka10_deeds.specs.Done.{channel_of as posted_by};
 ghost use Rattle.ka10_unit.specs.Gathers.{Serves};
 ghost use Rattle.plain_model.specs.Trees.{with_body};
 ghost use Rattle.monitor_calls.specs.Limits.{CanUnit};
-ghost use Rattle.monitor_calls.specs.Shown.{FitsShown, FitsStop, stands};
+ghost use Rattle.step_shown.specs.Shown.{FitsShown, FitsStop, stands};
 ghost use Rattle.monitor_calls.specs.ForkUnit.{HasRoom, Place as APlace, Ran, RanOne, behind_instruction, behind_interrupted, fork_of, post_shown, units_over};
 
-use crate::shown::{Shown, Stop};
+use step_shown::{Shown, Stop};
 use fork_tree::post;
 use ka10_deeds::Post;
 use ka10_in_place::{BurstEnd, burst};

@@ -9,30 +9,19 @@ ghost use Rattle.job_forks.specs.Holding.{Holds};
 ghost use Rattle.job_forks.specs.Limits.{AreWithin};
 ghost use Rattle.monitor_calls.specs.Limits.{CanUnit};
 ghost use Rattle.monitor_calls.specs.ForkUnit.{HasJob, Place as APlace, UnitWaits, UnitsRan, fork_of, tables_in};
-ghost use Rattle.monitor_calls.specs.Reaching.{Reaches};
-ghost use Rattle.monitor_calls.specs.Shown.{nothing};
+ghost use Rattle.step_shown.specs.Reaching.{Reaches};
+ghost use Rattle.step_shown.specs.Shown.{nothing};
 
 use crate::calls::{called, reach_of};
 use crate::job::Job;
-use crate::runner::Runner;
-use crate::shown::Shown;
+use step_shown::Runner;
+use step_shown::Shown;
 use crate::typing::Typing;
 use crate::unit::{Last, run_units};
 use file_tables::FileTables;
 use fork_tree::Tree;
 use page_contracts::{Need, Pages};
 use text_pointers::Scratch;
-
-/// How far units of a fork have reached among the forks.
-#[derive(Clone, Copy)]
-pub enum Reach {
-    /// Only the fork that ran may stand otherwise.
-    Own,
-    /// Besides, a fork may have been made in its job.
-    Made,
-    /// Forks of its job may stand otherwise.
-    Job,
-}
 
 /// Units of a fork in a row: how many, at least one, what the last of them shows, and how far they reached. Those before it show
 /// nothing.

@@ -18,8 +18,8 @@ use Rattle.monitor_core.specs.Systems.{state_of}
 use Rattle.monitor_core.proofs.HasDone.{has_as, has_left}
 use Rattle.job_forks.proofs.Places.{came_itself}
 use Rattle.monitor_calls.specs.Jobs.{job_at}
-use Rattle.monitor_core.specs.Echoes.{echo_items}
-use Rattle.monitor_core.specs.declared.echo.Echo.TheVariants.{Nothing}
+use Rattle.step_shown.specs.Echoes.{echo_items}
+use Rattle.step_shown.specs.declared.echo.Echo.TheVariants.{Nothing}
 use Rattle.monitor_core.proofs.TypeDid.{types_at, types_nowhere}
 
 not_equal : (a b : ℕ) → a ≢ b → (a == b) ≡ false

@@ -27,8 +27,8 @@ use Rattle.plain_typing.specs.declared.typed.Typed.{Typed}
 use Rattle.plain_typing.specs.declared.typed.Typed.TheVariants.{ControlC, Stored}
 use Rattle.script_texts.specs.declared.event.Item.{Item}
 use Rattle.monitor_calls.specs.declared.typing.Typing.{Typing}
-use Rattle.monitor_core.specs.declared.echo.Echo.{Echo}
-use Rattle.monitor_core.specs.declared.echo.Echo.TheVariants.{Shows, Stops, Wakes}
+use Rattle.step_shown.specs.declared.echo.Echo.{Echo}
+use Rattle.step_shown.specs.declared.echo.Echo.TheVariants.{Shows, Stops, Wakes}
 use Rattle.monitor_core.specs.Effects.{Has, stopped_tree, HasJobAt, job_in}
 use Rattle.machine_names.specs.declared.names.ForkName.{ForkName}
 use Rattle.machine_names.specs.declared.names.TheConstants.{MOST_FORKS}
@@ -36,11 +36,11 @@ use Rattle.std.specs.List.{range_with_len}
 use Rattle.script_texts.specs.declared.status.WaitOn.TheVariants as on
 use Rattle.plain_model.specs.declared.fork.TerminalMode.{TerminalMode}
 use Rattle.job_commands.specs.Going.{can_continue}
-use Rattle.monitor_core.specs.declared.echo.Complaint.TheVariants.{Cannot}
-use Rattle.monitor_core.specs.declared.echo.Told.TheVariants.{Nothing, Refused}
+use Rattle.step_shown.specs.declared.echo.Complaint.TheVariants.{Cannot}
+use Rattle.step_shown.specs.declared.echo.Told.TheVariants.{Nothing, Refused}
 use Rattle.monitor_calls.specs.declared.job.Job.{Job}
 use Rattle.monitor_core.specs.declared.system.System.{System}
-use Rattle.monitor_core.specs.Echoes.{echo_items, told_items}
+use Rattle.step_shown.specs.Echoes.{echo_items, told_items}
 use Rattle.monitor_calls.specs.Jobs.{jobs_of}
 use Rattle.monitor_calls.specs.Limits.{FitsForced}
 use Rattle.monitor_core.specs.Systems.{named, state_of}

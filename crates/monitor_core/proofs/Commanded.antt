@@ -9,12 +9,12 @@ use Rattle.plain_model.specs.Commands.{commanded, delete_file, go_on, logged_out
 use Rattle.job_forks.proofs.Places.{came_itself}
 use Rattle.job_forks.specs.Holding.{ComeFrom}
 use Rattle.plain_model.specs.Trees.{PlainTree}
-use Rattle.monitor_core.specs.declared.echo.Complaint.TheVariants as complaint
-use Rattle.monitor_core.specs.declared.echo.Told.{Told}
-use Rattle.monitor_core.specs.declared.echo.Told.TheVariants.{Prompt, Refused, Files}
+use Rattle.step_shown.specs.declared.echo.Complaint.TheVariants as complaint
+use Rattle.step_shown.specs.declared.echo.Told.{Told}
+use Rattle.step_shown.specs.declared.echo.Told.TheVariants.{Prompt, Refused, Files}
 use Rattle.monitor_calls.specs.declared.job.Job.{Job}
 use Rattle.monitor_core.specs.declared.system.System.{System}
-use Rattle.monitor_core.specs.Echoes.{told_items}
+use Rattle.step_shown.specs.Echoes.{told_items}
 use Rattle.monitor_core.specs.Effects.{Has, job_in}
 use Rattle.monitor_core.specs.Systems.{state_of}
 use Rattle.monitor_core.proofs.HasDone.{has_left}

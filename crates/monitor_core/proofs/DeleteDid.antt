@@ -27,10 +27,10 @@ use Rattle.job_forks.proofs.Places.{came_itself}
 use Rattle.file_tables.specs.Tables.{IsThere, OpenStay, files_of, open_of}
 use Rattle.file_tables.proofs.Names.{name_apart, name_total, named, not_both, numbers_gone}
 use Rattle.monitor_calls.specs.ForkUnit.{NumbersStay}
-use Rattle.monitor_core.specs.declared.echo.Complaint.TheVariants.{Busy}
-use Rattle.monitor_core.specs.declared.echo.Told.TheVariants.{Prompt, Refused}
+use Rattle.step_shown.specs.declared.echo.Complaint.TheVariants.{Busy}
+use Rattle.step_shown.specs.declared.echo.Told.TheVariants.{Prompt, Refused}
 use Rattle.monitor_core.specs.declared.system.System.{System}
-use Rattle.monitor_core.specs.Echoes.{told_items}
+use Rattle.step_shown.specs.Echoes.{told_items}
 use Rattle.monitor_core.specs.Effects.{Has}
 use Rattle.monitor_calls.specs.Jobs.{jobs_of}
 use Rattle.monitor_core.specs.Systems.{FitsPages, named as named_pages, state_of}

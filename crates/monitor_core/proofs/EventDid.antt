@@ -30,7 +30,7 @@ use Rattle.plain_pages.proofs.Refiled.{live_refiled}
 use Rattle.fork_tree.specs.Making.{with_new_in}
 use Rattle.monitor_core.specs.declared.panel.Panel.{Panel}
 use Rattle.monitor_calls.specs.declared.job.Job.{Job}
-use Rattle.monitor_core.specs.declared.reply.Reply.TheVariants.{Nothing, One}
+use Rattle.step_shown.specs.declared.reply.Reply.TheVariants.{Nothing, One}
 use Rattle.monitor_core.specs.declared.system.System.{System}
 use Rattle.monitor_calls.specs.Jobs.{jobs_of, job_at, plain_job}
 use Rattle.monitor_calls.specs.Typings.{new_typing}

@@ -40,12 +40,12 @@ use Rattle.machine_names.specs.PageWords.{zero_words}
 use Rattle.file_tables.specs.declared.tables.FileTables.{FileTables}
 use Rattle.file_tables.specs.Tables.{file_of, IsThere, OpenStay, files_of, open_of}
 use Rattle.monitor_core.specs.declared.panel.Panel.{Panel}
-use Rattle.monitor_core.specs.declared.reply.Reply.{Reply}
-use Rattle.monitor_core.specs.declared.reply.Reply.TheVariants.{Nothing, One, Page as ShowsPage}
+use Rattle.step_shown.specs.declared.reply.Reply.{Reply}
+use Rattle.step_shown.specs.declared.reply.Reply.TheVariants.{Nothing, One, Page as ShowsPage}
 use Rattle.monitor_core.specs.declared.system.System.{System}
 use Rattle.monitor_calls.specs.declared.writing.Barred.{Barred}
 use Rattle.monitor_calls.specs.Jobs.{jobs_of}
-use Rattle.monitor_core.specs.Replies.{FitsReply, page_items, reply_items}
+use Rattle.step_shown.specs.Replies.{FitsReply, page_items, reply_items}
 use Rattle.monitor_core.specs.Systems.{Did, FitsPages, IsWithin, named, state_of}
 use Rattle.monitor_calls.specs.Writing.{IsRowWritten, Makes, left_by, write_of}
 use Rattle.monitor_core.proofs.FileReferences.{named_result, page_is, row_files, row_named, write_filed, write_named}

@@ -16,7 +16,7 @@ use Rattle.plain_model.specs.Trees.{PlainTree}
 use Rattle.fork_tree.specs.Trees.{IsTree, Lives}
 use Rattle.fork_tree.proofs.Upward.{superior_lives}
 use Rattle.monitor_calls.specs.Limits.{FitsForced, IsBody}
-use Rattle.monitor_core.specs.Replies.{lines_of}
+use Rattle.step_shown.specs.Replies.{lines_of}
 
 -- a status whose channel is one of the 36
 fits_status : (status : ForkStatus) → FitsForced status → FitsStatus status

@@ -41,14 +41,14 @@ use Rattle.monitor_core.specs.declared.panel.Panel.{Panel}
 use Rattle.monitor_calls.specs.declared.job.Job.{Job}
 use Rattle.monitor_core.specs.declared.job_event.JobEvent.{JobEvent}
 use Rattle.monitor_core.specs.declared.job_event.JobEvent.TheVariants.{Poke as ToPoke, Start as ToStart, Examine as ToExamine, Forks as ToShow}
-use Rattle.monitor_core.specs.declared.reply.Reply.{Reply}
-use Rattle.monitor_core.specs.declared.reply.Reply.TheVariants.{Nothing, One, Forks}
+use Rattle.step_shown.specs.declared.reply.Reply.{Reply}
+use Rattle.step_shown.specs.declared.reply.Reply.TheVariants.{Nothing, One, Forks}
 use Rattle.monitor_core.specs.declared.system.System.{System}
 use Rattle.monitor_core.specs.JobEvents.{event_at}
 use Rattle.monitor_calls.specs.Jobs.{jobs_of, job_at, plain_job}
 use Rattle.monitor_calls.specs.Typings.{typing_at}
 use Rattle.monitor_core.specs.Looking.{word_in, examined_in, item_of}
-use Rattle.monitor_core.specs.Replies.{reply_items, FitsReply}
+use Rattle.step_shown.specs.Replies.{reply_items, FitsReply}
 use Rattle.plain_files.specs.NamedFiles.{pages_named}
 use Rattle.plain_files.specs.OpenFiles.{open_at}
 use Rattle.file_tables.specs.Tables.{files_of, open_of}

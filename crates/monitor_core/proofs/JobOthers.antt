@@ -17,10 +17,10 @@ use Rattle.plain_model.specs.Trees.{PlainTree, free_slot, new_fork, next_name, r
 use Rattle.plain_model.proofs.OtherJobs.{named_others, others_alike, others_on, posted_others, put_others, readers_job}
 use Rattle.fork_tree.specs.Making.{with_new, with_new_in}
 use Rattle.fork_tree.specs.Trees.{IsTree}
-use Rattle.monitor_core.specs.declared.echo.Echo.{Echo}
-use Rattle.monitor_core.specs.declared.echo.Echo.TheVariants.{Shows, Wakes}
+use Rattle.step_shown.specs.declared.echo.Echo.{Echo}
+use Rattle.step_shown.specs.declared.echo.Echo.TheVariants.{Shows, Wakes}
 use Rattle.monitor_calls.specs.declared.job.Job.{Job}
-use Rattle.monitor_core.specs.Reaching.{EchoReaches}
+use Rattle.step_shown.specs.Reaching.{EchoReaches}
 use Rattle.monitor_core.specs.declared.system.System.{System}
 use Rattle.monitor_core.specs.Effects.{stopped_tree}
 use Rattle.monitor_calls.specs.Jobs.{job_at}

@@ -26,16 +26,16 @@ use Rattle.script_texts.specs.declared.event.Item.{Item}
 use Rattle.plain_typing.specs.declared.typed.Typed.{Typed}
 use Rattle.plain_typing.specs.declared.typed.Typed.TheVariants.{Posts as Given}
 use Rattle.monitor_calls.specs.declared.job.Job.{Job}
-use Rattle.monitor_core.specs.declared.echo.Echo.TheVariants.{Nothing as Silence, Posts}
-use Rattle.monitor_calls.specs.declared.shown.Stop.{Stop}
-use Rattle.monitor_calls.specs.declared.shown.Stop.TheVariants.{GoesOn, Forced}
+use Rattle.step_shown.specs.declared.echo.Echo.TheVariants.{Nothing as Silence, Posts}
+use Rattle.step_shown.specs.declared.shown.Stop.{Stop}
+use Rattle.step_shown.specs.declared.shown.Stop.TheVariants.{GoesOn, Forced}
 use Rattle.monitor_core.specs.declared.system.System.{System}
-use Rattle.monitor_core.specs.Echoes.{echo_items}
+use Rattle.step_shown.specs.Echoes.{echo_items}
 use Rattle.monitor_core.specs.Effects.{Has, job_in}
 use Rattle.monitor_calls.specs.Jobs.{jobs_left, jobs_of}
 use Rattle.plain_model.specs.declared.fork.Psi.{Psi}
 use Rattle.monitor_calls.proofs.Keeping.{panic_fits}
-use Rattle.monitor_calls.specs.Shown.{FitsStop, is_stopped, seen_stop, stop_items}
+use Rattle.step_shown.specs.Shown.{FitsStop, is_stopped, seen_stop, stop_items}
 use Rattle.monitor_core.specs.Systems.{named, state_of}
 use Rattle.monitor_core.proofs.HasDone.{has_left}
 use Rattle.monitor_core.proofs.Told.{end_keeps, posted_mild}

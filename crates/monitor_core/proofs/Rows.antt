@@ -24,8 +24,8 @@ use Rattle.ka10_spots.specs.Once.{After, in_a_row, once}
 use Rattle.fork_tree.proofs.Kept.{changed_tree}
 use Rattle.fork_tree.proofs.Slots.{get_put}
 use Rattle.monitor_calls.specs.ForkUnit.{Behind, RanUnits, Rest, behind_unit, left_so, put_in, ran_on}
-use Rattle.monitor_core.specs.Replies.{line_items, ran_items}
-use Rattle.monitor_calls.specs.Shown.{nothing, seen_of, shown_items}
+use Rattle.step_shown.specs.Replies.{line_items, ran_items}
+use Rattle.step_shown.specs.Shown.{nothing, seen_of, shown_items}
 use Rattle.fork_calls.proofs.Frozen.{still_frozen}
 use Rattle.fork_calls.proofs.OtherRuns.{body_runs}
 use Rattle.monitor_calls.proofs.Maps.{insert_again, insert_twice}

@@ -34,11 +34,11 @@ use Rattle.file_tables.specs.Tables.{FilesStay, IsThere, files_of, open_of}
 use Rattle.file_tables.proofs.Pages.{page_at as page_there}
 use Rattle.job_commands.specs.Leaving.{LogoutLeaves, RunLeaves}
 use Rattle.job_commands.specs.Programs.{IsRun, first_page}
-use Rattle.monitor_core.specs.declared.echo.Complaint.TheVariants.{NoProgram}
-use Rattle.monitor_core.specs.declared.echo.Told.TheVariants.{Nothing, Refused}
+use Rattle.step_shown.specs.declared.echo.Complaint.TheVariants.{NoProgram}
+use Rattle.step_shown.specs.declared.echo.Told.TheVariants.{Nothing, Refused}
 use Rattle.monitor_calls.specs.declared.job.Job.{Job}
 use Rattle.monitor_core.specs.declared.system.System.{System}
-use Rattle.monitor_core.specs.Echoes.{told_items}
+use Rattle.step_shown.specs.Echoes.{told_items}
 use Rattle.monitor_core.specs.Effects.{Has, HasJobAt, job_in}
 use Rattle.monitor_calls.specs.Jobs.{job_at, jobs_of, plain_job}
 use Rattle.monitor_core.specs.Systems.{FitsPages, named, state_of}

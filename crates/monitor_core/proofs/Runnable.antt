@@ -7,9 +7,9 @@ use Rattle.script_texts.specs.Limits.{FitsStep}
 use Rattle.machine_names.specs.Bounds.{IsForkName}
 use Rattle.plain_model.specs.Run.{IsLegalStep}
 use Rattle.plain_model.specs.Trees.{PlainTree}
-use Rattle.monitor_calls.specs.declared.runner.Runner.{Runner}
+use Rattle.step_shown.specs.declared.runner.Runner.{Runner}
 use Rattle.monitor_core.specs.declared.system.System.{System}
-use Rattle.monitor_calls.specs.Runners.{IsRunner}
+use Rattle.step_shown.specs.Runners.{IsRunner}
 use Rattle.monitor_core.specs.Systems.{CanDo, state_of}
 
 -- what can be done is legal

@@ -8,9 +8,9 @@ use Rattle.plain_model.specs.Trees.{PlainTree}
 use Rattle.fork_tree.specs.Trees.{Lives}
 use Rattle.fork_tree.proofs.CanRun.{can_runs, runs_named}
 use Rattle.fork_tree.proofs.Slots.{in_found}
-use Rattle.monitor_calls.specs.declared.runner.Runner.{Runner}
+use Rattle.step_shown.specs.declared.runner.Runner.{Runner}
 use Rattle.monitor_calls.specs.ForkUnit.{Place, fork_of}
-use Rattle.monitor_calls.specs.Runners.{IsRunner}
+use Rattle.step_shown.specs.Runners.{IsRunner}
 
 -- where a fork stands
 abbrev pub place_of : Fork → Place

@@ -23,16 +23,16 @@ use Rattle.script_texts.proofs.Takers.{onward_nil, AreTurns-append}
 use Rattle.monitor_core.proofs.Gave.{gave_none, gave_append, gave_cut}
 use Rattle.monitor_core.specs.declared.machine.Machine.{Machine}
 use Rattle.monitor_core.specs.declared.system.System.{System}
-use Rattle.monitor_core.specs.declared.reply.Reply.{Reply}
-use Rattle.monitor_core.specs.declared.reply.Reply.TheVariants.{Nothing, One, Ran, Forks, Page}
-use Rattle.monitor_calls.specs.declared.shown.Stop.{Stop}
-use Rattle.monitor_calls.specs.declared.shown.Stop.TheVariants.{GoesOn as Runs, Halted, Forced}
-use Rattle.monitor_calls.specs.Shown.{none_shown, stop_items}
+use Rattle.step_shown.specs.declared.reply.Reply.{Reply}
+use Rattle.step_shown.specs.declared.reply.Reply.TheVariants.{Nothing, One, Ran, Forks, Page}
+use Rattle.step_shown.specs.declared.shown.Stop.{Stop}
+use Rattle.step_shown.specs.declared.shown.Stop.TheVariants.{GoesOn as Runs, Halted, Forced}
+use Rattle.step_shown.specs.Shown.{none_shown, stop_items}
 use Rattle.monitor_core.specs.Acts.{Given, GivenTurns, Cut, Acted, TookTurns}
 use Rattle.monitor_core.specs.PassedOver.{AreNear, ComeCloser}
 use Rattle.monitor_core.specs.Giving.{TookOver}
 use Rattle.monitor_core.specs.Machines.{plain, done, auto, is_live}
-use Rattle.monitor_core.specs.Replies.{reply_items, is_silent}
+use Rattle.step_shown.specs.Replies.{reply_items, is_silent}
 use Rattle.monitor_core.specs.Systems.{CanDo, Did, DidAll, FitsPages, state_of}
 use Rattle.monitor_core.proofs.PassedOver.{closer_append, closer_fair, few_fair}
 use Rattle.monitor_core.proofs.Runnable.{is_legal}

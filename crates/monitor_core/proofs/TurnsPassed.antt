@@ -10,7 +10,7 @@ use Rattle.job_sched.specs.Ties.{IsSound}
 use Rattle.job_sched.specs.Units.{IsRow, row_ran}
 use Rattle.fork_lists.specs.declared.lists.ForkLists.{ForkLists}
 use Rattle.fork_lists.specs.Ties.{AreTied}
-use Rattle.monitor_core.specs.declared.reply.Reply.{Reply}
+use Rattle.step_shown.specs.declared.reply.Reply.{Reply}
 use Rattle.monitor_core.specs.declared.system.System.{System}
 use Rattle.monitor_core.specs.Following.{IsHead}
 use Rattle.monitor_core.specs.PassedOver.{AreNear, ComeCloser}

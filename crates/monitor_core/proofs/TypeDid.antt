@@ -18,12 +18,12 @@ use Rattle.plain_model.specs.Trees.{PlainTree, readers_woken, with_mark}
 use Rattle.plain_model.specs.TypeEvents.{echo, interrupted, line_ended, line_typed, rings, stopped_by, stored, typed_at, typed_one}
 use Rattle.plain_model.specs.Unit.{Effect}
 use Rattle.file_tables.specs.Tables.{files_of, open_of}
-use Rattle.monitor_core.specs.declared.echo.Echo.TheVariants.{Shows, Stops, Ends}
-use Rattle.monitor_core.specs.declared.echo.Told.{Told}
+use Rattle.step_shown.specs.declared.echo.Echo.TheVariants.{Shows, Stops, Ends}
+use Rattle.step_shown.specs.declared.echo.Told.{Told}
 use Rattle.monitor_calls.specs.declared.job.Job.{Job}
 use Rattle.monitor_core.specs.declared.system.System.{System}
 use Rattle.monitor_calls.specs.declared.typing.Typing.{Typing}
-use Rattle.monitor_core.specs.Echoes.{echo_items, told_items}
+use Rattle.step_shown.specs.Echoes.{echo_items, told_items}
 use Rattle.monitor_core.specs.Effects.{Has, HasJobAt, job_in, stopped_tree}
 use Rattle.monitor_calls.specs.Jobs.{jobs_of, job_at, plain_job}
 use Rattle.monitor_core.specs.Systems.{named, state_of}

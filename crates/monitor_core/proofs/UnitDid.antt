@@ -28,18 +28,18 @@ use Rattle.job_forks.proofs.Places.{Keep, keep_itself}
 use Rattle.monitor_core.specs.declared.panel.Panel.{Panel}
 use Rattle.monitor_calls.specs.Limits.{unit_frames}
 use Rattle.monitor_calls.specs.declared.job.Job.{Job}
-use Rattle.monitor_core.specs.declared.reply.Reply.TheVariants.{Ran}
-use Rattle.monitor_calls.specs.declared.shown.Shown.{Shown}
-use Rattle.monitor_calls.specs.declared.shown.Stop.{Stop}
-use Rattle.monitor_calls.specs.declared.shown.Stop.TheVariants.{GoesOn}
+use Rattle.step_shown.specs.declared.reply.Reply.TheVariants.{Ran}
+use Rattle.step_shown.specs.declared.shown.Shown.{Shown}
+use Rattle.step_shown.specs.declared.shown.Stop.{Stop}
+use Rattle.step_shown.specs.declared.shown.Stop.TheVariants.{GoesOn}
 use Rattle.monitor_core.specs.declared.system.System.{System}
 use Rattle.monitor_calls.specs.declared.typing.Typing.{Typing}
 use Rattle.monitor_calls.specs.declared.units.Units.{Units}
 use Rattle.monitor_calls.specs.ForkUnit.{Behind, HasJob, LeavesForks, Tables, UnitWaits, UnitsRan, rest_of}
 use Rattle.monitor_calls.specs.Jobs.{AreUnheld, job_at, jobs_left, jobs_of}
-use Rattle.monitor_calls.specs.Runners.{told_at, told_where}
-use Rattle.monitor_core.specs.Replies.{FitsLine, line_before, ran_items}
-use Rattle.monitor_calls.specs.Shown.{FitsShown, FitsStop, is_stop, seen_of}
+use Rattle.step_shown.specs.Runners.{told_at, told_where}
+use Rattle.step_shown.specs.Replies.{FitsLine, line_before, ran_items}
+use Rattle.step_shown.specs.Shown.{FitsShown, FitsStop, is_stop, seen_of}
 use Rattle.monitor_calls.specs.Sound.{AreSound}
 use Rattle.plain_files.specs.NamedFiles.{AreFiled, pages_named}
 use Rattle.plain_files.specs.Sizes.{file_at}

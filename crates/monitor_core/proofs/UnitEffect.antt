@@ -45,12 +45,12 @@ use Rattle.plain_units.proofs.RefiledUnits.{left_refiled, refiled_plan}
 use Rattle.plain_model.specs.Trees.{PlainTree, end_told, tree_of}
 use Rattle.fork_tree.specs.Trees.{IsTree}
 use Rattle.fork_tree.proofs.CanRun.{named_runs, runs_can}
-use Rattle.monitor_calls.specs.declared.shown.Shown.{Shown}
-use Rattle.monitor_calls.specs.declared.shown.Stop.{Stop}
-use Rattle.monitor_calls.specs.declared.shown.Stop.TheVariants.{GoesOn, Halted, Forced}
+use Rattle.step_shown.specs.declared.shown.Shown.{Shown}
+use Rattle.step_shown.specs.declared.shown.Stop.{Stop}
+use Rattle.step_shown.specs.declared.shown.Stop.TheVariants.{GoesOn, Halted, Forced}
 use Rattle.monitor_calls.specs.ForkUnit.{Behind, Rest, behind, behind_decided, behind_instruction, behind_interrupted, behind_unit, called_behind, left_so, parts_in, post_shown, turn_behind}
-use Rattle.monitor_calls.specs.Runners.{told_where}
-use Rattle.monitor_calls.specs.Shown.{is_stop, is_stopped, nothing, seen_of, seen_stop, shown_items, stands, stop_items, stop_of}
+use Rattle.step_shown.specs.Runners.{told_where}
+use Rattle.step_shown.specs.Shown.{is_stop, is_stopped, nothing, seen_of, seen_stop, shown_items, stands, stop_items, stop_of}
 use Rattle.monitor_core.proofs.CallerStays.{caller_stays, interrupter_stays, sleeper_stays}
 use Rattle.monitor_core.proofs.Inspected.{inspected_files, inspected_keyed, word_files, word_keyed}
 use Rattle.plain_pages.proofs.Refiled.{NameAlike}

@@ -15,13 +15,13 @@ use Rattle.fork_lists.specs.declared.lists.ForkLists.{ForkLists}
 use Rattle.fork_lists.specs.declared.seen.Seen.{Seen}
 use Rattle.fork_lists.specs.Following.{followed, started_if, stopped_if}
 use Rattle.fork_lists.specs.Ties.{AreTied}
-use Rattle.monitor_core.specs.declared.echo.Echo.{Echo}
-use Rattle.monitor_calls.specs.declared.runner.Runner.{Runner}
-use Rattle.monitor_calls.specs.declared.units.Reach.{Reach}
-use Rattle.monitor_calls.specs.declared.units.Reach.TheVariants.{Own, Made, Job}
-use Rattle.monitor_core.specs.Reaching.{EchoReaches, EventReaches}
-use Rattle.monitor_calls.specs.Reaching.{Reaches}
-use Rattle.monitor_calls.specs.Runners.{IsRunner}
+use Rattle.step_shown.specs.declared.echo.Echo.{Echo}
+use Rattle.step_shown.specs.declared.runner.Runner.{Runner}
+use Rattle.step_shown.specs.declared.reach.Reach.{Reach}
+use Rattle.step_shown.specs.declared.reach.Reach.TheVariants.{Own, Made, Job}
+use Rattle.step_shown.specs.Reaching.{EchoReaches, EventReaches}
+use Rattle.step_shown.specs.Reaching.{Reaches}
+use Rattle.step_shown.specs.Runners.{IsRunner}
 
 -- a fork is the head of the ready list
 pub record IsHead (s : Schedule) (f : ForkName) : Type 0 where

@@ -1,12 +1,9 @@
 pub mod Outcome
 pub mod Looking
-pub mod Echoes
-pub mod Replies
 pub mod JobEvents
 pub mod Systems
 pub mod Effects
 pub mod Giving
-pub mod Reaching
 pub mod Machines
 pub mod PassedOver
 pub mod Acts

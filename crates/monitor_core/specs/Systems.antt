@@ -19,10 +19,10 @@ use Rattle.plain_model.specs.Run.{apply, state_after, items_of, AreLegal}
 use Rattle.fork_tree.specs.Trees.{Lives}
 use Rattle.plain_model.specs.Forks.{IsRunnable, runs_in}
 use Rattle.monitor_calls.specs.Limits.{unit_frames}
-use Rattle.monitor_core.specs.declared.reply.Reply.{Reply}
+use Rattle.step_shown.specs.declared.reply.Reply.{Reply}
 use Rattle.monitor_core.specs.declared.system.System.{System}
 use Rattle.monitor_calls.specs.Jobs.{jobs_of}
-use Rattle.monitor_core.specs.Replies.{reply_items, FitsReply}
+use Rattle.step_shown.specs.Replies.{reply_items, FitsReply}
 use Rattle.monitor_calls.specs.Writing.{most_makings}
 
 -- the pages of a state, which knows files by their names, where the pages know them by number

@@ -3,13 +3,13 @@ ghost use Rattle.std.specs.Prelude.{◌<◌, All};
 ghost use Rattle.machine_names.specs.Bounds.{IsForkName, IsTerminal};
 ghost use Rattle.plain_model.specs.Unit.{printed, shown_code};
 ghost use Rattle.monitor_core.specs.Giving.{TookItems};
-ghost use Rattle.monitor_core.specs.Replies.{FitsLine, ran_items};
-ghost use Rattle.monitor_calls.specs.Shown.{FitsShown, FitsStop, shown_items, stop_items};
+ghost use Rattle.step_shown.specs.Replies.{FitsLine, ran_items};
+ghost use Rattle.step_shown.specs.Shown.{FitsShown, FitsStop, shown_items, stop_items};
 
 use itoa::Buffer;
 use machine_names::character::LINE_END;
 use machine_names::{ForkName, Tty};
-use monitor_calls::{Shown, Stop};
+use step_shown::{Shown, Stop};
 use outside::Failed;
 use script_texts::{Item, Taker};
 

@@ -5,7 +5,6 @@
 #![tactic(auto)]
 
 mod address;
-mod echo;
 mod forks;
 mod giving;
 mod job_event;
@@ -13,9 +12,7 @@ mod looking;
 mod machine;
 mod page_shown;
 mod panel;
-mod progress;
 mod reaching;
-mod reply;
 mod system;
 
 pub use machine::{Config, Ended, Machine};

@@ -9,14 +9,14 @@ ghost use Rattle.machine_names.specs.declared.names.ForkName.{ForkName as AForkN
 ghost use Rattle.plain_model.specs.Forks.{IsRunnable};
 ghost use Rattle.machine_names.specs.Bounds.{IsTerminal};
 ghost use Rattle.script_texts.specs.Limits.{FitsEvent};
-ghost use Rattle.monitor_core.specs.Echoes.{FitsEcho};
+ghost use Rattle.step_shown.specs.Echoes.{FitsEcho};
 ghost use Rattle.monitor_core.specs.Following.{AreFollowed, IsAt, IsFollowed, IsHead, IsNowhere, IsOf, IsOfNone, RowEnded, reach_followed};
 
-use crate::echo::Echo;
+use step_shown::Echo;
 use fork_lists::ForkLists;
 use fork_tree::Tree;
 use machine_names::Tty;
-use monitor_calls::{Reach, Runner};
+use step_shown::{Reach, Runner};
 use script_texts::Event;
 
 /// A row of units of the head is over, which has reached so far among the forks: the units before the last are counted to its quantum, who stopped

@@ -6,7 +6,7 @@ ghost use Rattle.machine_names.specs.declared.names.ForkName.{ForkName as AForkN
 ghost use Rattle.plain_model.specs.Forks.{IsRunnable};
 ghost use Rattle.job_sched.specs.Units.{IsRow};
 ghost use Rattle.monitor_core.specs.Following.{IsHead};
-ghost use Rattle.monitor_calls.specs.Runners.{IsRunner};
+ghost use Rattle.step_shown.specs.Runners.{IsRunner};
 ghost use Rattle.monitor_core.specs.Effects.{IsAtOnce};
 ghost use Rattle.monitor_core.specs.Systems.{CanDo};
 ghost use Rattle.monitor_core.specs.Machines.{done};
@@ -14,8 +14,8 @@ ghost use Rattle.monitor_core.specs.Acts.{Acted, TookTurns};
 
 use crate::machine::Machine;
 use crate::machine::following::{end_row, follow_event};
-use crate::reply::Reply;
-use monitor_calls::Runner;
+use step_shown::Reply;
+use step_shown::Runner;
 use outside::Failed;
 use page_contracts::Pages;
 use script_texts::{Event, Step, Taker};

@@ -8,7 +8,7 @@ ghost use Rattle.monitor_core.specs.Acts.{Acted, TookText};
 
 use crate::machine::Machine;
 use crate::machine::following::follow_typed;
-use crate::reply::Reply;
+use step_shown::Reply;
 use machine_names::{Tty, TypedText};
 use outside::Failed;
 use page_contracts::Pages;

@@ -5,11 +5,11 @@ ghost use Rattle.machine_names.specs.declared.names.TheConstants.{SPACE_PAGES};
 ghost use Rattle.script_texts.specs.Limits.{FitsRow};
 ghost use Rattle.script_texts.specs.declared.event.Event.{Event as AnEvent};
 ghost use Rattle.script_texts.specs.declared.event.Step.{Step as AStep};
-ghost use Rattle.monitor_core.specs.Replies.{reply_of};
+ghost use Rattle.step_shown.specs.Replies.{reply_of};
 ghost use Rattle.monitor_core.specs.Systems.{Did, IsWithin};
 
 use crate::reaching::reach;
-use crate::reply::Reply;
+use step_shown::Reply;
 use crate::system::System;
 use machine_names::{FileName, PAGE_ADDRESSES, Place, Tty};
 use monitor_calls::write_row;

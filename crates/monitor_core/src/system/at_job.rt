@@ -4,12 +4,12 @@ ghost use Rattle.machine_names.specs.Bounds.{IsTerminal};
 ghost use Rattle.plain_model.specs.Forks.{OthersStay};
 ghost use Rattle.script_texts.specs.declared.event.Step.{Step as AStep};
 ghost use Rattle.monitor_core.specs.JobEvents.{event_at, FitsJobEvent};
-ghost use Rattle.monitor_core.specs.Replies.{reply_of};
+ghost use Rattle.step_shown.specs.Replies.{reply_of};
 ghost use Rattle.monitor_core.specs.Systems.{Did, IsWithin};
 
 use crate::forks::{examined, poke, start};
 use crate::job_event::JobEvent;
-use crate::reply::Reply;
+use step_shown::Reply;
 use crate::system::System;
 use machine_names::Tty;
 use page_contracts::Pages;

@@ -3,10 +3,10 @@ ghost use Rattle.std.specs.Prelude.{◌≡◌, [], true};
 ghost use Rattle.machine_names.specs.Bounds.{IsTerminal};
 ghost use Rattle.plain_model.specs.Forks.{OthersStay};
 ghost use Rattle.plain_model.specs.Commands.{commanded, delete_file as delete_file_of, go_on as go_on_of, logged_out, run_program as run_program_of, start_again as start_again_of};
-ghost use Rattle.monitor_core.specs.Echoes.{told_items};
+ghost use Rattle.step_shown.specs.Echoes.{told_items};
 ghost use Rattle.monitor_core.specs.Effects.{Has, HasJobAt, job_in};
 
-use crate::echo::{Complaint, Told};
+use step_shown::{Complaint, Told};
 use crate::forks::start;
 use crate::system::System;
 use job_commands::{delete, go_on, log_out, run};

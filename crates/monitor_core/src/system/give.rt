@@ -5,15 +5,15 @@ ghost use Rattle.machine_names.specs.declared.names.TheConstants.{SPACE_PAGES};
 ghost use Rattle.plain_model.specs.Forks.{fork_in};
 ghost use Rattle.script_texts.specs.Limits.{FitsStep};
 ghost use Rattle.script_texts.specs.Follows.{IsTurn};
-ghost use Rattle.monitor_core.specs.declared.reply.Reply.{Reply as AReply};
+ghost use Rattle.step_shown.specs.declared.reply.Reply.{Reply as AReply};
 ghost use Rattle.monitor_core.specs.Giving.{TookAll, TookItems, TookOver};
-ghost use Rattle.monitor_core.specs.Replies.{lines_of, page_items, reply_items, FitsReply};
+ghost use Rattle.step_shown.specs.Replies.{lines_of, page_items, reply_items, FitsReply};
 ghost use Rattle.monitor_core.specs.Systems.{FitsPages, state_of};
 
 use crate::forks::line;
 use crate::giving::give_ran;
 use crate::page_shown::give_words;
-use crate::reply::Reply;
+use step_shown::Reply;
 use crate::system::System;
 use machine_names::{FileName, MOST_FORKS, Place, Tty};
 use outside::Failed;

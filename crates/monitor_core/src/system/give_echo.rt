@@ -8,11 +8,11 @@ ghost use Rattle.file_tables.specs.Tables.{files_of};
 ghost use Rattle.plain_model.specs.Commands.{file_line, with_line_end};
 ghost use Rattle.plain_model.specs.Unit.{printed};
 ghost use Rattle.job_commands.specs.Listing.{line_of};
-ghost use Rattle.monitor_core.specs.Echoes.{FitsEcho, complaint_text, echo_items, told_items};
+ghost use Rattle.step_shown.specs.Echoes.{FitsEcho, complaint_text, echo_items, told_items};
 ghost use Rattle.monitor_core.specs.Giving.{TookItems};
 ghost use Rattle.monitor_core.specs.Systems.{state_of};
 
-use crate::echo::{Complaint, Echo, Told};
+use step_shown::{Complaint, Echo, Told};
 use crate::giving::{give_code, give_stop, give_text};
 use crate::system::System;
 use job_commands::{file_part, next_listed};

@@ -6,10 +6,10 @@ ghost use Rattle.script_texts.specs.declared.event.Event.{Event as AnEvent};
 ghost use Rattle.script_texts.specs.declared.event.Step.{Step as AStep};
 ghost use Rattle.fork_tree.specs.Making.{room_for};
 ghost use Rattle.monitor_calls.specs.Jobs.{job_at};
-ghost use Rattle.monitor_core.specs.Replies.{reply_of};
+ghost use Rattle.step_shown.specs.Replies.{reply_of};
 ghost use Rattle.monitor_core.specs.Systems.{Did, Waits};
 
-use crate::reply::Reply;
+use step_shown::Reply;
 use crate::system::System;
 use fork_tree::NoFork;
 use machine_names::{DirName, ForkName, Tty, character};

@@ -2,12 +2,12 @@
 ghost use Rattle.std.specs.Prelude.{◌≡◌};
 ghost use Rattle.plain_model.specs.Forks.{IsRunnable};
 ghost use Rattle.fork_tree.specs.Trees.{IsTree};
-ghost use Rattle.monitor_calls.specs.Runners.{IsRunner};
+ghost use Rattle.step_shown.specs.Runners.{IsRunner};
 
 use crate::system::System;
 use fork_tree::Tree;
 use machine_names::ForkName;
-use monitor_calls::Runner;
+use step_shown::Runner;
 use page_contracts::Pages;
 
 impl<P: Pages> System<P> {

@@ -5,19 +5,20 @@ ghost use Rattle.script_texts.specs.Limits.{FitsStep};
 ghost use Rattle.script_texts.specs.declared.event.Event.{Event as AnEvent};
 ghost use Rattle.script_texts.specs.declared.event.Step.{Step as AStep};
 ghost use Rattle.monitor_core.specs.Effects.{IsAtOnce};
-ghost use Rattle.monitor_core.specs.Reaching.{EventReaches};
-ghost use Rattle.monitor_calls.specs.Reaching.{Reaches};
-ghost use Rattle.monitor_core.specs.Replies.{line_before, reply_of};
-ghost use Rattle.monitor_calls.specs.Runners.{IsRunner, told_at};
+ghost use Rattle.step_shown.specs.Reaching.{EventReaches};
+ghost use Rattle.step_shown.specs.Reaching.{Reaches};
+ghost use Rattle.step_shown.specs.Replies.{line_before, reply_of};
+ghost use Rattle.step_shown.specs.Runners.{IsRunner, told_at};
 ghost use Rattle.monitor_core.specs.Systems.{CanDo, Did, DidAll, IsWithin, Waits};
 
 use crate::job_event::JobEvent;
-use crate::progress::Progress;
-use crate::reply::Reply;
+use step_shown::Progress;
+use step_shown::Reply;
 use crate::system::System;
 use fork_tree::Tree;
 use machine_names::ForkName;
-use monitor_calls::{Reach, Runner, seen, units_of};
+use monitor_calls::{seen, units_of};
+use step_shown::{Reach, Runner};
 use page_contracts::{Need, Pages};
 use script_texts::{Event, Item, Refusal};
 

@@ -21,13 +21,14 @@ use Rattle.job_forks.specs.Limits.{AreWithin, FitsForced, IsBody}
 use Rattle.file_tables.specs.Keys.{key_of}
 use Rattle.monitor_calls.specs.Limits.{unit_frames}
 use Rattle.monitor_calls.specs.ForkUnit.{Kept, LeavesForks, Tables, TurnedSo, answered, answered_turn, called_behind, fork_of, out_in, parts_in, put_back, put_in, rest_of, turn_behind}
-use Rattle.monitor_calls.specs.Shown.{FitsShown, FitsStop, shown_of, stop_of}
+use Rattle.step_shown.specs.Shown.{FitsShown, FitsStop, shown_of, stop_of}
 use Rattle.monitor_calls.proofs.Calling.{done_else, out_fits, so_done}
 use Rattle.monitor_calls.proofs.Keeping.{answered_keeps}
 use Rattle.monitor_calls.proofs.Leaving.{after_keeps, caller_keeps, caller_within, turn_leaves}
-use Rattle.monitor_calls.specs.Reaching.{Reaches, reach_of}
-use Rattle.monitor_calls.specs.declared.units.Reach.{Reach}
-use Rattle.monitor_calls.specs.declared.units.Reach.TheVariants.{Own, Made, Job}
+use Rattle.step_shown.specs.Reaching.{Reaches}
+use Rattle.monitor_calls.specs.Reaching.{reach_of}
+use Rattle.step_shown.specs.declared.reach.Reach.{Reach}
+use Rattle.step_shown.specs.declared.reach.Reach.TheVariants.{Own, Made, Job}
 use Rattle.monitor_calls.proofs.MadeBeside.{beside_last}
 use Rattle.monitor_calls.proofs.ReachDid.{called_reaches, same_reaches}
 use Rattle.monitor_calls.proofs.calls.called.Goals as goal

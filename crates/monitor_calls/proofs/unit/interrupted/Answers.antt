@@ -8,8 +8,8 @@ use Rattle.psi_system.specs.Inspecting.{CameOut, Delivers}
 use Rattle.psi_system.specs.Judgements.{FitsInspected}
 use Rattle.plain_units.specs.declared.channel.TheConstants.{DENIED_READ, DENIED_WRITE, DRUM_FULL}
 use Rattle.text_pointers.specs.Reading.{IsByReference}
-use Rattle.monitor_calls.specs.declared.shown.Stop.TheVariants.{Forced}
-use Rattle.monitor_calls.specs.Shown.{nothing, stands}
+use Rattle.step_shown.specs.declared.shown.Stop.TheVariants.{Forced}
+use Rattle.step_shown.specs.Shown.{nothing, stands}
 use Rattle.monitor_calls.specs.ForkUnit.{Kept, RanOne, behind_decided, behind_instruction, behind_interrupted, fork_of, left_so}
 use Rattle.monitor_calls.proofs.Keeping.{delivered_keeps, forced_keeps}
 use Rattle.monitor_calls.proofs.UnitRows.{one_as}

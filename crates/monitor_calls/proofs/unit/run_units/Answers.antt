@@ -4,7 +4,7 @@ use Rattle.plain_model.specs.Calls.{posted_if}
 use Rattle.plain_units.specs.declared.channel.TheConstants.{OVERFLOW, PUSHDOWN_OVERFLOW}
 use Rattle.ka10_in_place.specs.Bursts.{AreCounted, Came}
 use Rattle.ka10_deeds.specs.declared.done.Post.TheVariants.{Overflow, Pushdown}
-use Rattle.monitor_calls.specs.Shown.{nothing}
+use Rattle.step_shown.specs.Shown.{nothing}
 use Rattle.plain_model.specs.Inspections.{is_interrupted}
 use Rattle.monitor_calls.specs.ForkUnit.{Kept, Ran, RanUnits, behind_instruction, behind_interrupted, behind_unit, fork_of, left_so, ran_on, units_over}
 use Rattle.monitor_calls.proofs.Keeping.{ended_keeps, more_keeps, row_keeps}

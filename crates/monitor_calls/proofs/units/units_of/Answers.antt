@@ -21,9 +21,10 @@ use Rattle.monitor_calls.proofs.Calling.{body_has, left_tree, still_in}
 use Rattle.monitor_calls.proofs.JfnsAsked.{dir_stays}
 use Rattle.monitor_calls.proofs.Keeping.{more_keeps}
 use Rattle.monitor_calls.proofs.Leaving.{leaves_one, leaves_then, left_came, left_holds}
-use Rattle.monitor_calls.specs.Reaching.{Reaches, ReachesOwn, reach_of}
-use Rattle.monitor_calls.specs.declared.units.Reach.{Reach}
-use Rattle.monitor_calls.specs.declared.units.Reach.TheVariants.{Own}
+use Rattle.step_shown.specs.Reaching.{Reaches, ReachesOwn}
+use Rattle.monitor_calls.specs.Reaching.{reach_of}
+use Rattle.step_shown.specs.declared.reach.Reach.{Reach}
+use Rattle.step_shown.specs.declared.reach.Reach.TheVariants.{Own}
 use Rattle.monitor_calls.proofs.ReachDid.{own_then, reaches_others, slot_reaches}
 use Rattle.monitor_calls.proofs.Stopping.{StopsBehind, with_tree, before_few, before_reach, before_some, call_stops, stops_ran, stops_waits, unit_stops}
 use Rattle.monitor_calls.proofs.UnitRan.{call_behind}

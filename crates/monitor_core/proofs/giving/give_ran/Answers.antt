@@ -1,8 +1,8 @@
 use Rattle.std.proofs.Common.{[], ◌∷◌, sym, subst}
 use Rattle.script_texts.specs.declared.event.Item.TheVariants.{UnitLine}
 use Rattle.monitor_core.specs.Giving.{Takes, TookItems}
-use Rattle.monitor_core.specs.Replies.{ran_items}
-use Rattle.monitor_calls.specs.Shown.{shown_items}
+use Rattle.step_shown.specs.Replies.{ran_items}
+use Rattle.step_shown.specs.Shown.{shown_items}
 use Rattle.monitor_core.proofs.Given.{on_err, taker_then, takes_part, takes_then}
 use Rattle.monitor_core.proofs.giving.give_ran.Goals as goal
 

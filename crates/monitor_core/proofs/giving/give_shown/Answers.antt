@@ -1,7 +1,7 @@
 use Rattle.std.proofs.Common.{[], ◌++◌, sym, subst}
 use Rattle.plain_model.specs.Unit.{printed, shown_code, turn_printed}
 use Rattle.monitor_core.specs.Giving.{Takes, TookItems}
-use Rattle.monitor_calls.specs.Shown.{stop_items}
+use Rattle.step_shown.specs.Shown.{stop_items}
 use Rattle.monitor_core.proofs.Given.{taker_failed, taker_then, takes_part, takes_then}
 use Rattle.monitor_core.proofs.giving.give_shown.Goals as goal
 

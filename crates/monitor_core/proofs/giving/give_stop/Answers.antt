@@ -1,6 +1,6 @@
 use Rattle.std.proofs.Common.{sym, subst}
 use Rattle.monitor_core.specs.Giving.{TookItems}
-use Rattle.monitor_calls.specs.Shown.{stop_items}
+use Rattle.step_shown.specs.Shown.{stop_items}
 use Rattle.monitor_core.proofs.giving.give_stop.Goals as goal
 
 pub returns-in-Halted : goal.returns-in-Halted

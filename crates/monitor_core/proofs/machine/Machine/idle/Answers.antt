@@ -1,6 +1,6 @@
 use Rattle.std.proofs.Common.{◌+◌, ap, arith, refl}
 use Rattle.script_texts.specs.declared.event.Step.TheVariants.{Idle}
-use Rattle.monitor_core.specs.declared.reply.Reply.TheVariants.{Nothing}
+use Rattle.step_shown.specs.declared.reply.Reply.TheVariants.{Nothing}
 use Rattle.monitor_core.proofs.StepDid.{did_idle, turns_given, turns_cut}
 use Rattle.monitor_core.proofs.TurnsPassed.{idle_closer}
 use Rattle.monitor_core.proofs.machine.Machine.idle.Goals as goal

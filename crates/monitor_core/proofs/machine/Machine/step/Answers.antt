@@ -3,7 +3,7 @@ use Rattle.plain_model.specs.Trees.{PlainTree}
 use Rattle.fork_lists.specs.Ties.{AreTied}
 use Rattle.job_sched.specs.Ties.{WaitsLess}
 use Rattle.job_sched.proofs.Waits.{less_none}
-use Rattle.monitor_core.specs.Reaching.{EventReaches}
+use Rattle.step_shown.specs.Reaching.{EventReaches}
 use Rattle.monitor_core.proofs.StepDid.{step_acted}
 use Rattle.monitor_core.proofs.Systems.{within_later}
 use Rattle.monitor_core.proofs.machine.Machine.step.Goals as goal

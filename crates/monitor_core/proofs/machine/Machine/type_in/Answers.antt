@@ -2,7 +2,7 @@ use Rattle.std.proofs.Common.{refl, sym, ◌∙◌, subst}
 use Rattle.script_texts.specs.declared.event.Event.TheVariants.{TypeIn}
 use Rattle.script_texts.specs.declared.event.Item.TheVariants.{Refusal}
 use Rattle.script_texts.specs.declared.event.Refusal.TheVariants.{NoJob}
-use Rattle.monitor_core.specs.declared.reply.Reply.TheVariants.{One}
+use Rattle.step_shown.specs.declared.reply.Reply.TheVariants.{One}
 use Rattle.monitor_core.specs.Acts.{TookText}
 use Rattle.monitor_calls.specs.Jobs.{job_at}
 use Rattle.monitor_core.proofs.EventDid.{missing}

@@ -4,11 +4,11 @@ use Rattle.plain_model.specs.TypeEvents.{typed_all}
 use Rattle.fork_lists.specs.Ties.{AreTied}
 use Rattle.job_sched.specs.Ties.{WaitsLess}
 use Rattle.job_sched.proofs.Waits.{less_none}
-use Rattle.monitor_core.specs.Reaching.{EchoReaches}
+use Rattle.step_shown.specs.Reaching.{EchoReaches}
 use Rattle.plain_model.specs.Unit.{Effect}
 use Rattle.script_texts.specs.Taker.{GoesOn}
 use Rattle.script_texts.proofs.Takers.{goes_on_append, goes_on_nil, onward_nil, onward_then}
-use Rattle.monitor_core.specs.Echoes.{echo_items}
+use Rattle.step_shown.specs.Echoes.{echo_items}
 use Rattle.monitor_core.specs.Giving.{Takes}
 use Rattle.monitor_core.specs.Machines.{plain}
 use Rattle.monitor_core.specs.Systems.{state_of}

@@ -6,7 +6,7 @@ use Rattle.plain_model.specs.Trees.{PlainTree}
 use Rattle.fork_lists.specs.Ties.{AreTied}
 use Rattle.job_sched.specs.Ties.{WaitsLess}
 use Rattle.job_sched.proofs.Waits.{less_none}
-use Rattle.monitor_calls.specs.Reaching.{Reaches}
+use Rattle.step_shown.specs.Reaching.{Reaches}
 use Rattle.monitor_core.proofs.ListsTied.{fewer_row}
 use Rattle.monitor_core.proofs.Runnable.{runner_fits}
 use Rattle.monitor_core.proofs.StepDid.{turns_given, turns_cut}

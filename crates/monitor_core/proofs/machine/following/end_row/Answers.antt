@@ -7,10 +7,10 @@ use Rattle.job_sched.specs.Lines.{Nears, is_in_line}
 use Rattle.job_sched.specs.Schedules.{Schedule, heads}
 use Rattle.job_sched.specs.Ties.{WaitsLess}
 use Rattle.job_sched.specs.Units.{row_ran}
-use Rattle.monitor_calls.specs.declared.units.Reach.{Reach}
-use Rattle.monitor_calls.specs.declared.units.Reach.TheVariants.{Own, Made, Job}
+use Rattle.step_shown.specs.declared.reach.Reach.{Reach}
+use Rattle.step_shown.specs.declared.reach.Reach.TheVariants.{Own, Made, Job}
 use Rattle.monitor_core.specs.Following.{reach_followed}
-use Rattle.monitor_calls.specs.Reaching.{Reaches}
+use Rattle.step_shown.specs.Reaching.{Reaches}
 use Rattle.monitor_core.proofs.ListsTied.{can_follow, tied_followed, tied_own}
 use Rattle.monitor_core.proofs.RowPassed.{comes_behind, head_at, head_counts}
 use Rattle.monitor_core.proofs.machine.following.end_row.Goals as goal

@@ -1,7 +1,7 @@
 use Rattle.std.proofs.Common.{IsSome, sym, subst, inl, inr}
 use Rattle.std.specs.FinMap as map
 use Rattle.script_texts.specs.declared.event.Event.{Event}
-use Rattle.monitor_core.specs.Reaching.{EventReaches}
+use Rattle.step_shown.specs.Reaching.{EventReaches}
 use Rattle.plain_model.specs.Trees.{PlainTree}
 use Rattle.fork_lists.specs.Ties.{AreTied}
 use Rattle.job_sched.proofs.Waits.{less_same}

@@ -5,7 +5,7 @@ use Rattle.script_texts.specs.declared.event.Event.TheVariants.{Login}
 use Rattle.script_texts.specs.declared.event.Item.TheVariants.{Refusal}
 use Rattle.script_texts.specs.declared.event.Refusal.TheVariants.{Full}
 use Rattle.monitor_calls.specs.Limits.{unit_frames}
-use Rattle.monitor_core.specs.declared.reply.Reply.TheVariants.{One}
+use Rattle.step_shown.specs.declared.reply.Reply.TheVariants.{One}
 use Rattle.monitor_core.proofs.EventDid.{is_full}
 use Rattle.monitor_core.proofs.JobDid.{did_still}
 use Rattle.monitor_core.proofs.Logins.{filled, none_first, none_held, unused}

@@ -5,10 +5,10 @@ use Rattle.plain_model.specs.Commands.{restarted}
 use Rattle.plain_model.specs.Trees.{PlainTree}
 use Rattle.fork_tree.proofs.Slots.{held_lives}
 use Rattle.monitor_calls.specs.declared.job.Job.{Job}
-use Rattle.monitor_core.specs.declared.reply.Reply.TheVariants.{One}
+use Rattle.step_shown.specs.declared.reply.Reply.TheVariants.{One}
 use Rattle.monitor_core.specs.JobEvents.{FitsJobEvent}
 use Rattle.monitor_core.specs.Looking.{item_of}
-use Rattle.monitor_core.specs.Replies.{reply_of}
+use Rattle.step_shown.specs.Replies.{reply_of}
 use Rattle.monitor_calls.specs.Sound.{AreSound}
 use Rattle.monitor_calls.proofs.Sounds.{entry_read, job_read, same_tops_set, sound_change}
 use Rattle.file_tables.specs.Tables.{open_of}

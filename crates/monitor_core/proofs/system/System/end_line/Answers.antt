@@ -1,6 +1,6 @@
 use Rattle.std.proofs.Common.{◌∙◌, ap, subst}
 use Rattle.plain_model.specs.Commands.{commanded}
-use Rattle.monitor_core.specs.Echoes.{told_items}
+use Rattle.step_shown.specs.Echoes.{told_items}
 use Rattle.monitor_core.specs.Effects.{Has, job_in}
 use Rattle.monitor_calls.specs.Jobs.{job_at}
 use Rattle.monitor_core.proofs.TypeDid.{ends_line}

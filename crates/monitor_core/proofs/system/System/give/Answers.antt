@@ -1,6 +1,6 @@
 use Rattle.std.proofs.Common.{[], sym, subst}
 use Rattle.monitor_core.specs.Giving.{TookOver}
-use Rattle.monitor_core.specs.Replies.{reply_items}
+use Rattle.step_shown.specs.Replies.{reply_items}
 use Rattle.monitor_core.specs.Systems.{FitsPages, state_of}
 use Rattle.monitor_core.proofs.Given.{over_drums}
 use Rattle.monitor_core.proofs.system.System.give.Goals as goal

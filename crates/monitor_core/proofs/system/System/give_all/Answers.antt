@@ -1,7 +1,7 @@
 use Rattle.std.proofs.Common.{[], ◌∷◌, replicate, sym, subst}
 use Rattle.std.proofs.lemmas.List.{append-nil}
 use Rattle.monitor_core.specs.Giving.{Takes}
-use Rattle.monitor_core.specs.Replies.{reply_items}
+use Rattle.step_shown.specs.Replies.{reply_items}
 use Rattle.monitor_core.specs.Systems.{state_of}
 use Rattle.monitor_core.proofs.Given.{last_of, taker_failed, taker_then, takes_part, takes_then}
 use Rattle.monitor_core.proofs.StepDid.{silent_items}

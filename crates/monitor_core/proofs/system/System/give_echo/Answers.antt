@@ -1,7 +1,7 @@
 use Rattle.std.proofs.Common.{sym, subst}
 use Rattle.machine_names.specs.declared.character.TheConstants.{LINE_END}
 use Rattle.plain_model.specs.TypeEvents.{echo}
-use Rattle.monitor_core.specs.Echoes.{FitsEcho, echo_items, told_items}
+use Rattle.step_shown.specs.Echoes.{FitsEcho, echo_items, told_items}
 use Rattle.monitor_core.specs.Giving.{TookItems}
 use Rattle.monitor_core.specs.Systems.{state_of}
 use Rattle.monitor_core.proofs.GivenParts.{part_failed, part_then}

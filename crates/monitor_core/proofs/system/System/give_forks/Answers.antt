@@ -4,7 +4,7 @@ use Rattle.plain_model.specs.Forks.{fork_in}
 use Rattle.script_texts.specs.Taker.{GoesOn}
 use Rattle.script_texts.proofs.Takers.{goes_on_append, onward_then}
 use Rattle.monitor_core.specs.Giving.{Takes}
-use Rattle.monitor_core.specs.Replies.{lines_of}
+use Rattle.step_shown.specs.Replies.{lines_of}
 use Rattle.monitor_core.proofs.ForksShown.{lines, lines_upto, one_line_more}
 use Rattle.monitor_core.proofs.Given.{on_err, takes_part, takes_then}
 use Rattle.monitor_core.proofs.system.System.give_forks.Goals as goal

@@ -5,7 +5,7 @@ use Rattle.file_tables.specs.Tables.{files_of}
 use Rattle.machine_names.specs.declared.character.TheConstants.{PROMPT}
 use Rattle.plain_model.specs.Commands.{file_line}
 use Rattle.plain_model.specs.Unit.{printed}
-use Rattle.monitor_core.specs.Echoes.{told_items}
+use Rattle.step_shown.specs.Echoes.{told_items}
 use Rattle.monitor_core.specs.Giving.{TookItems}
 use Rattle.monitor_core.specs.Systems.{state_of}
 use Rattle.monitor_core.proofs.Given.{printed_append}

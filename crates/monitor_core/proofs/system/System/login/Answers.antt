@@ -3,7 +3,7 @@ use Rattle.std.specs.Prelude.{Err}
 use Rattle.script_texts.specs.declared.event.Event.TheVariants.{Login}
 use Rattle.script_texts.specs.declared.event.Item.TheVariants.{Refusal}
 use Rattle.script_texts.specs.declared.event.Refusal.TheVariants.{Busy, SerialsOut}
-use Rattle.monitor_core.specs.declared.reply.Reply.TheVariants.{One}
+use Rattle.step_shown.specs.declared.reply.Reply.TheVariants.{One}
 use Rattle.monitor_calls.specs.Jobs.{job_at}
 use Rattle.monitor_core.proofs.EventDid.{is_busy, serials_are_out, missing}
 use Rattle.monitor_core.proofs.JobDid.{did_still}

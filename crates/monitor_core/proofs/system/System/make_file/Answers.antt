@@ -4,7 +4,7 @@ use Rattle.script_texts.specs.declared.event.Event.TheVariants.{File}
 use Rattle.script_texts.specs.declared.event.Item.TheVariants.{Refusal}
 use Rattle.script_texts.specs.declared.event.Refusal.TheVariants.{Exists, FilesFull}
 use Rattle.file_tables.specs.Tables.{files_of}
-use Rattle.monitor_core.specs.declared.reply.Reply.TheVariants.{One}
+use Rattle.step_shown.specs.declared.reply.Reply.TheVariants.{One}
 use Rattle.monitor_core.proofs.FileDid.{did_file, file_exists, file_found, file_missing, files_are_full, is_room, no_room}
 use Rattle.monitor_core.proofs.JobDid.{did_still}
 use Rattle.monitor_core.proofs.system.System.make_file.Goals as goal

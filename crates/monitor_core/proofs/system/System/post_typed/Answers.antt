@@ -11,7 +11,7 @@ use Rattle.plain_model.specs.declared.fork.Fork.{Fork}
 use Rattle.plain_model.specs.Posting.{with_all_posted}
 use Rattle.file_tables.specs.Tables.{open_of}
 use Rattle.monitor_calls.specs.Jobs.{AreUnheld, jobs_left}
-use Rattle.monitor_calls.specs.Shown.{FitsStop, is_stopped}
+use Rattle.step_shown.specs.Shown.{FitsStop, is_stopped}
 use Rattle.monitor_calls.specs.Sound.{AreSound}
 use Rattle.monitor_core.proofs.HasDone.{sound_kept}
 use Rattle.monitor_core.proofs.PostDid.{forced_fits, forced_is, has_posted, kept, stop_by}

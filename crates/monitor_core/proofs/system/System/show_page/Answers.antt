@@ -2,7 +2,7 @@ use Rattle.std.proofs.Common.{refl, sym, ◌∙◌}
 use Rattle.script_texts.specs.declared.event.Event.TheVariants.{Page}
 use Rattle.script_texts.specs.declared.event.Item.TheVariants.{Refusal}
 use Rattle.script_texts.specs.declared.event.Refusal.TheVariants.{NoFile, NoFilePage}
-use Rattle.monitor_core.specs.declared.reply.Reply.TheVariants.{One, Page as ShowsPage}
+use Rattle.step_shown.specs.declared.reply.Reply.TheVariants.{One, Page as ShowsPage}
 use Rattle.monitor_core.proofs.FileDid.{did_look, file_there, is_missing, page_at_file, page_is_none, page_is_shown, page_of_none}
 use Rattle.monitor_core.proofs.JobDid.{did_still}
 use Rattle.monitor_core.proofs.system.System.show_page.Goals as goal

@@ -1,4 +1,4 @@
-use Rattle.monitor_core.specs.Echoes.{echo_items}
+use Rattle.step_shown.specs.Echoes.{echo_items}
 use Rattle.monitor_core.proofs.CharacterDid.{has_end, has_other, has_stop}
 use Rattle.monitor_core.proofs.system.System.type_line.Goals as goal
 

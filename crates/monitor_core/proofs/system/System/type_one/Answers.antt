@@ -1,5 +1,5 @@
 use Rattle.std.proofs.Common.{◌∙◌}
-use Rattle.monitor_core.specs.Echoes.{echo_items}
+use Rattle.step_shown.specs.Echoes.{echo_items}
 use Rattle.monitor_core.proofs.CharacterDid.{has_in_line, has_in_program, has_nothing}
 use Rattle.monitor_calls.proofs.Sounds.{entry_read, job_read}
 use Rattle.monitor_core.proofs.system.System.type_one.Goals as goal

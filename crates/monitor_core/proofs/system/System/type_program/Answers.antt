@@ -2,7 +2,7 @@ use Rattle.std.proofs.Common.{refl, sym, ◌∙◌, ap, subst, length-set}
 use Rattle.plain_model.specs.Trees.{PlainTree}
 use Rattle.plain_model.specs.TypeEvents.{interrupted, posted_at}
 use Rattle.monitor_calls.specs.declared.typing.Typing.{Typing}
-use Rattle.monitor_core.specs.Echoes.{echo_items}
+use Rattle.step_shown.specs.Echoes.{echo_items}
 use Rattle.plain_typing.specs.declared.typed.Typed.TheVariants.{Stored}
 use Rattle.plain_typing.specs.Characters.{read_as}
 use Rattle.plain_typing.specs.Typing.{fate_of, left_by}

@@ -1,12 +1,12 @@
 use Rattle.std.proofs.Common.{◌≡◌, ℕ, ◌≤◌, cond, length, IsSome, is_some, refl, sym, ◌∙◌, ap, subst, arith}
 use Rattle.plain_model.specs.declared.fork.Fork.{Fork}
 use Rattle.monitor_calls.specs.Limits.{CanUnit}
-use Rattle.monitor_calls.specs.Runners.{told_at}
-use Rattle.monitor_calls.specs.Shown.{is_stop, seen_of}
+use Rattle.step_shown.specs.Runners.{told_at}
+use Rattle.step_shown.specs.Shown.{is_stop, seen_of}
 use Rattle.monitor_core.proofs.Running.{place_of, runner, runner_lives, runner_only, runner_runs, runner_there}
-use Rattle.monitor_calls.specs.Reaching.{Reaches}
-use Rattle.monitor_calls.specs.declared.units.Reach.TheVariants.{Job}
-use Rattle.monitor_core.specs.Replies.{line_before}
+use Rattle.step_shown.specs.Reaching.{Reaches}
+use Rattle.step_shown.specs.declared.reach.Reach.TheVariants.{Job}
+use Rattle.step_shown.specs.Replies.{line_before}
 use Rattle.monitor_calls.proofs.ReachDid.{reaches_others, told_reaches}
 use Rattle.monitor_core.proofs.UnitDid.{did_units, has_job, left_keeps, unheld_left, units_sound, waits_sound, waits_still, waits_unheld}
 use Rattle.monitor_core.proofs.system.System.units.Goals as goal

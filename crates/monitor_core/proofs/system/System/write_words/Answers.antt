@@ -2,7 +2,7 @@ use Rattle.std.proofs.Common.{refl, arith}
 use Rattle.script_texts.specs.declared.event.Event.TheVariants.{Words}
 use Rattle.script_texts.specs.declared.event.Item.TheVariants.{Refusal}
 use Rattle.script_texts.specs.declared.event.Refusal.TheVariants.{NoFile}
-use Rattle.monitor_core.specs.declared.reply.Reply.TheVariants.{One}
+use Rattle.step_shown.specs.declared.reply.Reply.TheVariants.{One}
 use Rattle.monitor_core.proofs.FileDid.{did_not_write, did_write, file_there, is_missing, reaches, words_end, words_of_none}
 use Rattle.monitor_core.proofs.JobDid.{did_still}
 use Rattle.monitor_core.proofs.system.System.write_words.Goals as goal

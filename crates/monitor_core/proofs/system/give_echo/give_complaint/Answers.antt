@@ -1,6 +1,6 @@
 use Rattle.std.proofs.Common.{◌++◌, ap, sym, ◌∙◌, append_assoc}
 use Rattle.plain_model.specs.Unit.{printed}
-use Rattle.monitor_core.specs.Echoes.{complaint_text}
+use Rattle.step_shown.specs.Echoes.{complaint_text}
 use Rattle.monitor_core.proofs.Given.{forced_end, printed_append}
 use Rattle.monitor_core.proofs.GivenParts.{part_failed, part_then, took_same}
 use Rattle.monitor_core.proofs.system.give_echo.give_complaint.Goals as goal

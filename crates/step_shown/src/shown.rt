@@ -1,6 +1,6 @@
 // What a unit shows at a terminal.
 ghost use Rattle.std.specs.Prelude.{◌≡◌};
-ghost use Rattle.monitor_calls.specs.Shown.{is_nothing as is_nothing_of, is_stopped, stop_of};
+ghost use Rattle.step_shown.specs.Shown.{is_nothing as is_nothing_of, is_stopped, stop_of};
 
 use script_texts::ForkStatus;
 

@@ -7,7 +7,7 @@ use Rattle.plain_model.specs.declared.fork.Fork.{Fork}
 use Rattle.plain_model.specs.Forks.{ForkMap, IsRunnable}
 use Rattle.plain_model.specs.Trees.{PlainTree, end_told}
 use Rattle.fork_tree.specs.Trees.{IsIn, IsTree}
-use Rattle.monitor_calls.specs.declared.runner.Runner.{Runner}
+use Rattle.step_shown.specs.declared.runner.Runner.{Runner}
 
 -- a fork of trees is in this slot, under this name, and can run
 pub record IsRunner (tree : PlainTree) (who : Runner) : Type 0 where

@@ -1,9 +1,9 @@
 // What a step shows.
 ghost use Rattle.std.specs.Prelude.{◌≡◌};
-ghost use Rattle.monitor_core.specs.Replies.{is_silent as is_silent_of};
+ghost use Rattle.step_shown.specs.Replies.{is_silent as is_silent_of};
 
 use machine_names::{FileName, ForkName, Tty};
-use monitor_calls::Shown;
+use crate::shown::Shown;
 use script_texts::Item;
 
 /// What a step shows. Its items are made as they are given, one by one, so that it is small however many they are.

@@ -11,13 +11,13 @@ use Rattle.plain_model.specs.State.{PlainState}
 use Rattle.plain_model.specs.Unit.{printed}
 use Rattle.plain_model.specs.Commands.{file_line, with_line_end}
 use Rattle.plain_model.specs.TypeEvents.{echo}
-use Rattle.monitor_core.specs.declared.echo.Complaint.{Complaint}
-use Rattle.monitor_core.specs.declared.echo.Complaint.TheVariants as complaint
-use Rattle.monitor_core.specs.declared.echo.Told.{Told}
-use Rattle.monitor_core.specs.declared.echo.Told.TheVariants as told
-use Rattle.monitor_core.specs.declared.echo.Echo.{Echo}
-use Rattle.monitor_core.specs.declared.echo.Echo.TheVariants.{Nothing, Shows, Wakes, Bell, Stops, Posts, Ends}
-use Rattle.monitor_calls.specs.Shown.{FitsStop, stop_items}
+use Rattle.step_shown.specs.declared.echo.Complaint.{Complaint}
+use Rattle.step_shown.specs.declared.echo.Complaint.TheVariants as complaint
+use Rattle.step_shown.specs.declared.echo.Told.{Told}
+use Rattle.step_shown.specs.declared.echo.Told.TheVariants as told
+use Rattle.step_shown.specs.declared.echo.Echo.{Echo}
+use Rattle.step_shown.specs.declared.echo.Echo.TheVariants.{Nothing, Shows, Wakes, Bell, Stops, Posts, Ends}
+use Rattle.step_shown.specs.Shown.{FitsStop, stop_items}
 
 -- how it is printed why a command isn't done
 abbrev pub complaint_text : Complaint → List ℕ

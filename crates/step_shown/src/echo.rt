@@ -1,9 +1,9 @@
 // What a terminal shows of a character that is typed.
 ghost use Rattle.std.specs.Prelude.{◌≡◌};
-ghost use Rattle.monitor_core.specs.Echoes.{complaint_text};
+ghost use Rattle.step_shown.specs.Echoes.{complaint_text};
 
 use machine_names::{DirName, Tty};
-use monitor_calls::Stop;
+use crate::shown::Stop;
 
 /// Why a command isn't done.
 #[derive(Clone, Copy, PartialEq, Eq)]

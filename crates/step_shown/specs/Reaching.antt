@@ -1,12 +1,29 @@
--- How far an event reaches among the forks, whatever a drum holds.
+-- How far units, an event and a character reach among the forks, whatever a drum holds.
 use Rattle.std.specs.Prelude.{◌≡◌, ℕ}
+use Rattle.machine_names.specs.declared.names.ForkName.{ForkName}
 use Rattle.machine_names.specs.declared.names.Tty.{Tty}
 use Rattle.script_texts.specs.declared.event.Event.{Event}
 use Rattle.script_texts.specs.declared.event.Event.TheVariants.{Login, Poke, Start, Tick, Examine, Forks}
+use Rattle.plain_model.specs.declared.fork.Body.{Body}
 use Rattle.plain_model.specs.Forks.{ForkMap, OthersStay}
 use Rattle.plain_model.specs.Trees.{PlainTree, sleepers_awoken}
-use Rattle.monitor_core.specs.declared.echo.Echo.{Echo}
-use Rattle.monitor_core.specs.declared.echo.Echo.TheVariants.{Bell, Ends, Nothing, Posts, Shows, Stops, Wakes}
+use Rattle.fork_tree.specs.Changes.{with_body_of}
+use Rattle.fork_tree.specs.Making.{AddsBeside}
+use Rattle.step_shown.specs.declared.echo.Echo.{Echo}
+use Rattle.step_shown.specs.declared.echo.Echo.TheVariants.{Bell, Ends, Nothing, Posts, Shows, Stops, Wakes}
+use Rattle.step_shown.specs.declared.reach.Reach.{Reach}
+use Rattle.step_shown.specs.declared.reach.Reach.TheVariants.{Own, Made, Job}
+
+-- only this fork may stand otherwise, and of it no more than its body
+pub record ReachesOwn (who : ForkName) (old new : PlainTree) : Type 0 where
+  pub body : Body
+  pub left : new ≡ with_body_of old who body
+
+-- so far a fork may have reached: only it may stand otherwise, or besides one fork more may be there, or only forks of its job may
+abbrev pub Reaches : Reach → ForkName → PlainTree → PlainTree → Type 0
+Reaches Own who old new = ReachesOwn who old new
+Reaches Made who old new = AddsBeside who old new
+Reaches Job who old new = OthersStay who.tty old.forks new.forks
 
 -- how far an event that is one step may reach, which leaves the clock so: forks of its terminal's job may stand otherwise; a tick awakes
 -- sleepers; and an event of no terminal leaves all as it was

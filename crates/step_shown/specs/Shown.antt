@@ -6,9 +6,9 @@ use Rattle.script_texts.specs.declared.status.ForkStatus.TheVariants.{Halted as 
 use Rattle.script_texts.specs.declared.event.Item.{Item}
 use Rattle.plain_model.specs.Unit.{printed, stop_text, turn_printed}
 use Rattle.call_turns.specs.Turns.{IsOut}
-use Rattle.monitor_calls.specs.declared.shown.Shown.{Shown}
-use Rattle.monitor_calls.specs.declared.shown.Stop.{Stop}
-use Rattle.monitor_calls.specs.declared.shown.Stop.TheVariants.{GoesOn, Halted, Forced}
+use Rattle.step_shown.specs.declared.shown.Shown.{Shown}
+use Rattle.step_shown.specs.declared.shown.Stop.{Stop}
+use Rattle.step_shown.specs.declared.shown.Stop.TheVariants.{GoesOn, Halted, Forced}
 
 -- what a terminal prints of a top fork that stands so
 abbrev pub stop_items : Tty → Stop → List Item

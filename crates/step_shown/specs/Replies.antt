@@ -13,10 +13,10 @@ use Rattle.plain_model.specs.FileEvents.{page_named, words_shown}
 use Rattle.machine_names.specs.Bounds.{IsAddress, IsFileName, IsForkName, IsTerminal}
 use Rattle.machine_names.specs.declared.names.ForkName.{ForkName}
 use Rattle.script_texts.specs.Limits.{FitsItem}
-use Rattle.monitor_core.specs.declared.reply.Reply.{Reply}
-use Rattle.monitor_core.specs.declared.reply.Reply.TheVariants.{Nothing, One, Ran, Forks, Page}
-use Rattle.monitor_calls.specs.Shown.{shown_items, is_nothing, FitsShown}
-use Rattle.monitor_calls.specs.declared.shown.Shown.{Shown}
+use Rattle.step_shown.specs.declared.reply.Reply.{Reply}
+use Rattle.step_shown.specs.declared.reply.Reply.TheVariants.{Nothing, One, Ran, Forks, Page}
+use Rattle.step_shown.specs.Shown.{shown_items, is_nothing, FitsShown}
+use Rattle.step_shown.specs.declared.shown.Shown.{Shown}
 
 -- a fork as it is shown, if there is one
 abbrev pub lines_of : ForkMap → Option Fork → List Item

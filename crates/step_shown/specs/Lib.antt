@@ -1,0 +1,5 @@
+pub mod Shown
+pub mod Replies
+pub mod Echoes
+pub mod Reaching
+pub mod Runners
