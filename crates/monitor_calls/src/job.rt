@@ -4,10 +4,10 @@ ghost use Rattle.machine_names.specs.Bounds.{IsTerminal};
 ghost use Rattle.monitor_calls.specs.Jobs.{jobs_left, no_jobs};
 ghost use Rattle.step_shown.specs.Shown.{is_stop, is_stopped, seen_of, seen_stop};
 
-use step_shown::{Shown, Stop};
 use machine_names::{DirName, ForkName, TERMINALS, Tty};
 use plain_model::TerminalMode;
 use std::alloc::{AllocError, Global};
+use step_shown::{Shown, Stop};
 use word36::Word;
 
 /// A job of a terminal: its user, who reads the terminal, its top fork, and the word whose right half is where the program starts that it ran last.

@@ -13,7 +13,6 @@ ghost use Rattle.monitor_calls.specs.Limits.{CanUnit};
 ghost use Rattle.step_shown.specs.Shown.{FitsShown, FitsStop, stands};
 ghost use Rattle.monitor_calls.specs.ForkUnit.{HasRoom, Place as APlace, Ran, RanOne, behind_instruction, behind_interrupted, fork_of, post_shown, units_over};
 
-use step_shown::{Shown, Stop};
 use fork_tree::post;
 use ka10_deeds::Post;
 use ka10_in_place::{BurstEnd, burst};
@@ -25,6 +24,7 @@ use plain_model::interrupt::{CHANNELS, Inspected};
 use plain_units::channel::{OVERFLOW, PUSHDOWN_OVERFLOW};
 use psi_system::{deliver, inspect, is_interrupted};
 use script_texts::ForkStatus;
+use step_shown::{Shown, Stop};
 use text_pointers::Scratch;
 
 /// The last of units in a row.

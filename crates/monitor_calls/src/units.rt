@@ -14,13 +14,12 @@ ghost use Rattle.step_shown.specs.Shown.{nothing};
 
 use crate::calls::{called, reach_of};
 use crate::job::Job;
-use step_shown::Runner;
-use step_shown::Shown;
 use crate::typing::Typing;
 use crate::unit::{Last, run_units};
 use file_tables::FileTables;
 use fork_tree::Tree;
 use page_contracts::{Need, Pages};
+use step_shown::{Reach, Runner, Shown};
 use text_pointers::Scratch;
 
 /// Units of a fork in a row: how many, at least one, what the last of them shows, and how far they reached. Those before it show

@@ -19,8 +19,7 @@ use Rattle.step_shown.specs.declared.echo.Echo.{Echo}
 use Rattle.step_shown.specs.declared.runner.Runner.{Runner}
 use Rattle.step_shown.specs.declared.reach.Reach.{Reach}
 use Rattle.step_shown.specs.declared.reach.Reach.TheVariants.{Own, Made, Job}
-use Rattle.step_shown.specs.Reaching.{EchoReaches, EventReaches}
-use Rattle.step_shown.specs.Reaching.{Reaches}
+use Rattle.step_shown.specs.Reaching.{EchoReaches, EventReaches, Reaches}
 use Rattle.step_shown.specs.Runners.{IsRunner}
 
 -- a fork is the head of the ready list

@@ -9,9 +9,9 @@ ghost use Rattle.step_shown.specs.Shown.{FitsShown, FitsStop, shown_items, stop_
 use itoa::Buffer;
 use machine_names::character::LINE_END;
 use machine_names::{ForkName, Tty};
-use step_shown::{Shown, Stop};
 use outside::Failed;
 use script_texts::{Item, Taker};
+use step_shown::{Shown, Stop};
 
 /// Gives the characters that a terminal prints.
 pub fn give_text<T: Taker>(out: &mut T, t: Tty, text: &[u8]) -> Result<(), Failed>

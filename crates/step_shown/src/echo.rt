@@ -2,8 +2,8 @@
 ghost use Rattle.std.specs.Prelude.{◌≡◌};
 ghost use Rattle.step_shown.specs.Echoes.{complaint_text};
 
-use machine_names::{DirName, Tty};
 use crate::shown::Stop;
+use machine_names::{DirName, Tty};
 
 /// Why a command isn't done.
 #[derive(Clone, Copy, PartialEq, Eq)]

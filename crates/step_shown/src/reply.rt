@@ -2,8 +2,8 @@
 ghost use Rattle.std.specs.Prelude.{◌≡◌};
 ghost use Rattle.step_shown.specs.Replies.{is_silent as is_silent_of};
 
-use machine_names::{FileName, ForkName, Tty};
 use crate::shown::Shown;
+use machine_names::{FileName, ForkName, Tty};
 use script_texts::Item;
 
 /// What a step shows. Its items are made as they are given, one by one, so that it is small however many they are.

@@ -12,12 +12,11 @@ ghost use Rattle.script_texts.specs.Limits.{FitsEvent};
 ghost use Rattle.step_shown.specs.Echoes.{FitsEcho};
 ghost use Rattle.monitor_core.specs.Following.{AreFollowed, IsAt, IsFollowed, IsHead, IsNowhere, IsOf, IsOfNone, RowEnded, reach_followed};
 
-use step_shown::Echo;
 use fork_lists::ForkLists;
 use fork_tree::Tree;
 use machine_names::Tty;
-use step_shown::{Reach, Runner};
 use script_texts::Event;
+use step_shown::{Echo, Reach, Runner};
 
 /// A row of units of the head is over, which has reached so far among the forks: the units before the last are counted to its quantum, who stopped
 /// leaves the lists and who started enters them, and then the last unit is counted, where the head still stands. By the last unit each other

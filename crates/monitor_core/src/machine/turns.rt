@@ -14,11 +14,10 @@ ghost use Rattle.monitor_core.specs.Acts.{Acted, TookTurns};
 
 use crate::machine::Machine;
 use crate::machine::following::{end_row, follow_event};
-use step_shown::Reply;
-use step_shown::Runner;
 use outside::Failed;
 use page_contracts::Pages;
 use script_texts::{Event, Step, Taker};
+use step_shown::{Reply, Runner};
 
 impl<P: Pages> Machine<P> {
     /// Does an event that is one step, counts it, and gives it behind the items that it shows.

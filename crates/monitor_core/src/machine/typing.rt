@@ -8,11 +8,11 @@ ghost use Rattle.monitor_core.specs.Acts.{Acted, TookText};
 
 use crate::machine::Machine;
 use crate::machine::following::follow_typed;
-use step_shown::Reply;
 use machine_names::{Tty, TypedText};
 use outside::Failed;
 use page_contracts::Pages;
 use script_texts::{Event, Item, Refusal, Step, Taker};
+use step_shown::Reply;
 
 impl<P: Pages> Machine<P> {
     // The characters of a text are typed at a terminal, and what each shows is given.

@@ -9,12 +9,12 @@ ghost use Rattle.step_shown.specs.Replies.{reply_of};
 ghost use Rattle.monitor_core.specs.Systems.{Did, IsWithin};
 
 use crate::reaching::reach;
-use step_shown::Reply;
 use crate::system::System;
 use machine_names::{FileName, PAGE_ADDRESSES, Place, Tty};
 use monitor_calls::write_row;
 use page_contracts::Pages;
 use script_texts::{Refusal, WordRow};
+use step_shown::Reply;
 
 impl<P: Pages> System<P> {
     /// FILE: an empty file is made. Exists, where there is one of this name; FilesFull, where there are 512.

@@ -9,12 +9,12 @@ ghost use Rattle.monitor_core.specs.Systems.{Did, IsWithin};
 
 use crate::forks::{examined, poke, start};
 use crate::job_event::JobEvent;
-use step_shown::Reply;
 use crate::system::System;
 use machine_names::Tty;
 use page_contracts::Pages;
 use plain_model::TerminalMode;
 use script_texts::Refusal;
+use step_shown::Reply;
 
 impl<P: Pages> System<P> {
     /// An event of a terminal's job. NoJob, where the terminal has none.

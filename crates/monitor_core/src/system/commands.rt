@@ -6,7 +6,6 @@ ghost use Rattle.plain_model.specs.Commands.{commanded, delete_file as delete_fi
 ghost use Rattle.step_shown.specs.Echoes.{told_items};
 ghost use Rattle.monitor_core.specs.Effects.{Has, HasJobAt, job_in};
 
-use step_shown::{Complaint, Told};
 use crate::forks::start;
 use crate::system::System;
 use job_commands::{delete, go_on, log_out, run};
@@ -16,6 +15,7 @@ use page_contracts::Pages;
 use plain_model::TerminalMode;
 use plain_typing::Command;
 use psi_calls::forget_lost;
+use step_shown::{Complaint, Told};
 
 impl<P: Pages> System<P> {
     // RUN: the program in a file is run. Of the codes that forks of the job have assigned, those of the top fork stay.

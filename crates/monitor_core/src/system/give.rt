@@ -13,12 +13,12 @@ ghost use Rattle.monitor_core.specs.Systems.{FitsPages, state_of};
 use crate::forks::line;
 use crate::giving::give_ran;
 use crate::page_shown::give_words;
-use step_shown::Reply;
 use crate::system::System;
 use machine_names::{FileName, MOST_FORKS, Place, Tty};
 use outside::Failed;
 use page_contracts::Pages;
 use script_texts::{Item, Step, Taker};
+use step_shown::Reply;
 
 // Gives so many equal steps that show nothing: more than one are turns of a run.
 #[inline(always)]

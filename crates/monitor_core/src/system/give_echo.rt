@@ -12,7 +12,6 @@ ghost use Rattle.step_shown.specs.Echoes.{FitsEcho, complaint_text, echo_items, 
 ghost use Rattle.monitor_core.specs.Giving.{TookItems};
 ghost use Rattle.monitor_core.specs.Systems.{state_of};
 
-use step_shown::{Complaint, Echo, Told};
 use crate::giving::{give_code, give_stop, give_text};
 use crate::system::System;
 use job_commands::{file_part, next_listed};
@@ -21,6 +20,7 @@ use machine_names::{DirName, FileName, Tty};
 use outside::Failed;
 use page_contracts::Pages;
 use script_texts::Taker;
+use step_shown::{Complaint, Echo, Told};
 
 // Gives the line of a file in a user's directory.
 fn give_line<T: Taker>(name: &FileName, user: &DirName, t: Tty, out: &mut T) -> Result<(), Failed>

@@ -9,7 +9,6 @@ ghost use Rattle.monitor_calls.specs.Jobs.{job_at};
 ghost use Rattle.step_shown.specs.Replies.{reply_of};
 ghost use Rattle.monitor_core.specs.Systems.{Did, Waits};
 
-use step_shown::Reply;
 use crate::system::System;
 use fork_tree::NoFork;
 use machine_names::{DirName, ForkName, Tty, character};
@@ -17,6 +16,7 @@ use monitor_calls::Job;
 use page_contracts::{Need, Pages, Room};
 use plain_pages::NewMap;
 use script_texts::{Item, Refusal};
+use step_shown::Reply;
 
 impl<P: Pages> System<P> {
     // Makes a job with its top fork, and its terminal waits for a command; what was typed there before is lost.

@@ -7,8 +7,8 @@ ghost use Rattle.step_shown.specs.Runners.{IsRunner};
 use crate::system::System;
 use fork_tree::Tree;
 use machine_names::ForkName;
-use step_shown::Runner;
 use page_contracts::Pages;
+use step_shown::Runner;
 
 impl<P: Pages> System<P> {
     /// The forks of all jobs.

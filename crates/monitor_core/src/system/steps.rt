@@ -5,22 +5,19 @@ ghost use Rattle.script_texts.specs.Limits.{FitsStep};
 ghost use Rattle.script_texts.specs.declared.event.Event.{Event as AnEvent};
 ghost use Rattle.script_texts.specs.declared.event.Step.{Step as AStep};
 ghost use Rattle.monitor_core.specs.Effects.{IsAtOnce};
-ghost use Rattle.step_shown.specs.Reaching.{EventReaches};
-ghost use Rattle.step_shown.specs.Reaching.{Reaches};
+ghost use Rattle.step_shown.specs.Reaching.{EventReaches, Reaches};
 ghost use Rattle.step_shown.specs.Replies.{line_before, reply_of};
 ghost use Rattle.step_shown.specs.Runners.{IsRunner, told_at};
 ghost use Rattle.monitor_core.specs.Systems.{CanDo, Did, DidAll, IsWithin, Waits};
 
 use crate::job_event::JobEvent;
-use step_shown::Progress;
-use step_shown::Reply;
 use crate::system::System;
 use fork_tree::Tree;
 use machine_names::ForkName;
 use monitor_calls::{seen, units_of};
-use step_shown::{Reach, Runner};
 use page_contracts::{Need, Pages};
 use script_texts::{Event, Item, Refusal};
+use step_shown::{Progress, Reach, Reply, Runner};
 
 // Whoever is to hear that a fork has ended is told, where it has stopped.
 #[inline]

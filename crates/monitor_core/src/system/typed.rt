@@ -17,17 +17,16 @@ ghost use Rattle.monitor_calls.specs.Jobs.{job_at};
 ghost use Rattle.step_shown.specs.Reaching.{EchoReaches};
 ghost use Rattle.step_shown.specs.declared.echo.Echo.{Echo as AnEcho};
 
-use step_shown::Echo;
 use crate::system::System;
 use exec_cmd::read;
 use fork_tree::{Tree, channel_word};
 use machine_names::character::LINE_END;
 use machine_names::{ForkName, Tty};
 use monitor_calls::{Job, channel_of, seen_stop};
-use step_shown::Stop;
 use page_contracts::Pages;
 use plain_model::TerminalMode;
 use plain_typing::{CONTROL_C, Command, Typed};
+use step_shown::{Echo, Stop};
 use tty_lines::read_as;
 
 // The top fork has the freeze mark, where the forks of its job read the terminal.

@@ -1,4 +1,4 @@
-use Rattle.std.proofs.Common.{◌<◌, ◌&&◌, ◌==◌, not, length, refl, sym, ◌∙◌, ap, subst, arith}
+use Rattle.std.proofs.Common.{◌<◌, ◌&&◌, ◌==◌, not, length, refl, sym, ◌∙◌, ap, subst, arith, false}
 use Rattle.machine_names.specs.declared.names.TheConstants.{TERMINALS}
 use Rattle.machine_names.specs.declared.names.ForkName.{ForkName}
 use Rattle.plain_model.proofs.ForkMaps.{held_there}
@@ -6,7 +6,6 @@ use Rattle.plain_model.specs.Interrupts.{channels_of, forces}
 use Rattle.std.specs.List.{list_any}
 use Rattle.std.specs.Option.{option_map_or}
 use Rattle.std.specs.FinMap as map
-use Rattle.std.proofs.Common.{false}
 use Rattle.plain_model.specs.declared.fork.Fork.{Fork}
 use Rattle.plain_model.specs.Posting.{with_all_posted}
 use Rattle.file_tables.specs.Tables.{open_of}
