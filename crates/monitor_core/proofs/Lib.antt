@@ -1,31 +1,23 @@
-pub mod Gave
 mod Looks
-mod Given
 mod Rooms
 mod Filed
 mod Inspected
 mod NamedPages
 mod FileReferences
-mod FileDid
+pub mod FileDid
 mod Told
 mod Changing
-mod Systems
+pub mod Systems
 mod Running
 mod CallerStays
 mod UnitEffect
 mod Rows
 mod UnitDid
 mod PostDid
-mod JobDid
+pub mod JobDid
 mod Logins
-mod EventDid
-mod BootDid
-mod Runnable
-mod PassedOver
-mod RowPassed
-mod StepDid
-mod TurnsPassed
-mod ForksShown
+pub mod EventDid
+pub mod BootDid
 mod HasDone
 mod CharacterDid
 mod DeleteDid
@@ -34,10 +26,5 @@ mod TypeDid
 mod CommandPages
 mod CommandDid
 mod Commanded
-mod GivenParts
-mod Listed
-mod Typed
-mod TypedIn
 mod Sleepers
 mod JobOthers
-pub mod ListsTied

@@ -1,10 +1,4 @@
-pub mod Outcome
 pub mod Looking
 pub mod JobEvents
 pub mod Systems
 pub mod Effects
-pub mod Giving
-pub mod Machines
-pub mod PassedOver
-pub mod Acts
-pub mod Following

@@ -97,26 +97,3 @@ pub fn examined<P: Pages>(
         Err(need) => Err(need),
     }
 }
-
-// The serial of a fork's superior, and 0 where it has none.
-fn superior_serial(tree: &Tree, fork: &Fork) -> u32
-    ensures { result ≡ option_map_or (λ g. g.name.serial) (superior_of tree.now.forks fork.now) 0 }
-{
-    match tree.superior(fork) {
-        Some(over) => over.name.serial,
-        None => 0,
-    }
-}
-
-/// A fork as it is shown.
-pub fn line(tree: &Tree, fork: &Fork) -> ForkLine
-    ensures { result ≡ fork_line tree.now.forks fork.now }
-{
-    ForkLine {
-        name: fork.name,
-        superior: superior_serial(tree, fork),
-        status: fork.body.status,
-        frozen: fork.frozen,
-        address: fork.body.regs.pc,
-    }
-}

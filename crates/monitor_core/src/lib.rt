@@ -1,18 +1,15 @@
-//! The monitor's machine, over any pages: jobs and their forks, and one event after another, done as steps.
-//! To the layers above `Machine::event` gives a taker legal steps that follow the event, with their items.
-//! Stands on `plain_model` for the definitions, on `page_contracts` and `script_texts` for the contracts of pages and takers,
-//! on `monitor_calls` for units with their calls, on `fork_lists` for whose turn is next, and on `job_commands` for what users type to the monitor.
+//! The system, over any pages: jobs and their forks, files, and what was typed; its steps are those of the plain machine.
+//! To the layer above each step leaves the plain state that its definition leaves, and says what it shows and how far it reached.
+//! Stands on `plain_model` for the definitions, on `page_contracts` for the contracts of pages, on `monitor_calls` for units with their
+//! calls, and on `job_commands` for what users type to the monitor.
 #![tactic(auto)]
 
 mod address;
 mod forks;
-mod giving;
 mod job_event;
 mod looking;
-mod machine;
-mod page_shown;
 mod panel;
 mod reaching;
 mod system;
 
-pub use machine::{Config, Ended, Machine};
+pub use system::System;

@@ -12,6 +12,7 @@ use Rattle.plain_pages.specs.References.{page_at, words_of}
 use Rattle.plain_model.specs.FileEvents.{page_named, words_shown}
 use Rattle.machine_names.specs.Bounds.{IsAddress, IsFileName, IsForkName, IsTerminal}
 use Rattle.machine_names.specs.declared.names.ForkName.{ForkName}
+use Rattle.machine_names.specs.declared.names.Tty.{Tty}
 use Rattle.script_texts.specs.Limits.{FitsItem}
 use Rattle.step_shown.specs.declared.reply.Reply.{Reply}
 use Rattle.step_shown.specs.declared.reply.Reply.TheVariants.{Nothing, One, Ran, Forks, Page}
@@ -40,13 +41,17 @@ ran_items f line shown = line_items f line ++ shown_items f.tty shown
 abbrev pub page_items : PlainState → List ℕ → ℕ → List Item
 page_items s name page = option_map_or (λ n. PageLine name page ∷ words_shown 0 (words_of s.pages n)) (page_at s.pages (page_named name page)) []
 
+-- the forks of a terminal's job as they are shown, by slot
+abbrev pub fork_items : ForkMap → Tty → List Item
+fork_items forks t = map (λ f. ForkLine (fork_line forks f)) (forks_by_slot forks t)
+
 -- the items of a reply, in the state that the step leaves
 abbrev pub reply_items : PlainState → Reply → List Item
 reply_items s Nothing = []
 reply_items s (One item) = item ∷ []
 reply_items s (Ran f line shown) = ran_items f line shown
 reply_items s (Page name page) = page_items s name page
-reply_items s (Forks t) = map (λ f. ForkLine (fork_line s.forks f)) (forks_by_slot s.forks t)
+reply_items s (Forks t) = fork_items s.forks t
 
 -- the limits of the program counter of a line, where there is one
 abbrev pub FitsLine : Option ℕ → Type 0

@@ -21,8 +21,8 @@ use Rattle.command_words.specs.declared.request.EventSource.{EventSource}
 use Rattle.command_words.specs.declared.request.EventSource.TheVariants.{Script as ReadScript, Generated}
 use Rattle.command_words.specs.declared.request.Request.{Request}
 use Rattle.texts.specs.Tally.{no_tally, tally}
-use Rattle.monitor_core.specs.declared.machine.Machine.{Machine}
-use Rattle.monitor_core.specs.Machines.{Fits, limit, plain}
+use Rattle.machine_events.specs.declared.machine.Machine.{Machine}
+use Rattle.machine_events.specs.Machines.{Fits, limit, plain}
 use Rattle.texts.specs.declared.writer.Writer.{Writer}
 use Rattle.texts.specs.declared.last.Last.{Last}
 use Rattle.texts.specs.declared.last.Last.TheVariants.{Summary, Stopped}

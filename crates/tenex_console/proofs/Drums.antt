@@ -1,6 +1,6 @@
 -- A drum over several events.
 use Rattle.std.proofs.Common.{ℕ, refl, ◌∙◌, arith}
-use Rattle.monitor_core.specs.Outcome.{DrumStays}
+use Rattle.machine_events.specs.Outcome.{DrumStays}
 
 module _ {D : Type 0} (faults reads writes size : D → ℕ) where
   -- one that is not asked

@@ -13,7 +13,7 @@ use Rattle.plain_model.specs.Run.{AreLegal, IsLegal, ShownFirst, state_after, it
 use Rattle.script_texts.specs.Script.{turns_of}
 use Rattle.script_texts.specs.Taker.{GoesOn, IsCut, max_steps}
 use Rattle.page_contracts.specs.DrumWords.{DrumWords, Stands}
-use Rattle.monitor_core.specs.Outcome.{Went, Stopped, CutOff, judged_by}
+use Rattle.machine_events.specs.Outcome.{Went, Stopped, CutOff, judged_by}
 use Rattle.plain_model.proofs.Runs.{IsLegal-push, state_after-append, items_of-append}
 use Rattle.script_texts.proofs.Takers.{Follows-push, goes_on_nil, goes_on_append, cut_behind}
 use Rattle.tenex_console.specs.declared.driver.Driven.{Driven}

@@ -8,8 +8,8 @@ use Rattle.script_texts.specs.Limits.{FitsEvent}
 use Rattle.page_contracts.specs.DrumWords.{DrumWords, Stands}
 use Rattle.page_contracts.specs.Stores.{FitsHomes, free}
 use Rattle.script_texts.specs.Taker.{GoesOn, IsCut, max_steps}
-use Rattle.monitor_core.specs.declared.machine.Machine.{Machine}
-use Rattle.monitor_core.specs.Machines.{Fits, auto, done, is_live, limit, plain}
+use Rattle.machine_events.specs.declared.machine.Machine.{Machine}
+use Rattle.machine_events.specs.Machines.{Fits, auto, done, is_live, limit, plain}
 use Rattle.tenex_console.specs.declared.driver.Driven.{Driven}
 use Rattle.tenex_console.specs.declared.driver.Driven.TheVariants.{TakerFault}
 use Rattle.tenex_console.specs.Runs.{FollowsTo, RunsTo}

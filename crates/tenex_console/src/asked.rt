@@ -8,7 +8,7 @@ ghost use Rattle.tenex_console.specs.Headline.{IsTrueOf, status_of};
 
 use command_words::{EventSource, Sizes, asked_run};
 use flat_pages::{FlatSlots, FlatStore};
-use monitor_core::{Config, Machine};
+use machine_events::{Config, Machine};
 use outside::Memory;
 use std::alloc::Global;
 use texts::Status;

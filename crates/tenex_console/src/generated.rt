@@ -2,13 +2,13 @@
 ghost use Rattle.std.specs.Prelude.{◌≡◌, ◌≢◌, ◌≤◌, true};
 ghost use Rattle.outside.specs.Faults.{Rose};
 ghost use Rattle.script_texts.specs.Taker.{StaysOnward};
-ghost use Rattle.monitor_core.specs.Machines.{limit};
-ghost use Rattle.monitor_core.specs.Outcome.{DrumStays};
+ghost use Rattle.machine_events.specs.Machines.{limit};
+ghost use Rattle.machine_events.specs.Outcome.{DrumStays};
 ghost use Rattle.tenex_console.specs.Driving.{Drove, IsNew};
 ghost use Rattle.tenex_console.specs.Verdicts.{AreGenerated};
 
 use crate::driver::Driven;
-use monitor_core::{Ended, Machine};
+use machine_events::{Ended, Machine};
 use outside::Drum;
 use page_contracts::Pages;
 use script_lang::big_from;

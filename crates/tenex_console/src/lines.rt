@@ -3,13 +3,13 @@ ghost use Rattle.std.specs.Prelude.{◌≡◌, ◌≢◌, ◌≤◌, true, OnOk,
 ghost use Rattle.outside.specs.Faults.{Rose};
 ghost use Rattle.script_texts.specs.Taker.{GoesOn, IsCut, StaysOnward};
 ghost use Rattle.script_lang.specs.Lines.{Skips, NeedsRead};
-ghost use Rattle.monitor_core.specs.Machines.{limit};
-ghost use Rattle.monitor_core.specs.Outcome.{DrumStays};
+ghost use Rattle.machine_events.specs.Machines.{limit};
+ghost use Rattle.machine_events.specs.Outcome.{DrumStays};
 ghost use Rattle.tenex_console.specs.Driving.{Drove, IsNew};
 ghost use Rattle.tenex_console.specs.Verdicts.{Found, Verdict};
 
 use crate::driver::Driven;
-use monitor_core::{Ended, Machine};
+use machine_events::{Ended, Machine};
 use outside::{Drum, Failed, Source};
 use page_contracts::Pages;
 use script_lang::{Lines, Next};

@@ -195,7 +195,7 @@ impl<P: Pages> System<P> {
     }
 
     /// A character is typed at a terminal. Once its job is gone, nothing is done.
-    pub(crate) fn type_one(&mut self, t: Tty, c: u8) -> Echo
+    pub fn type_one(&mut self, t: Tty, c: u8) -> Echo
         requires terminal { IsTerminal t }
         requires flat { P.means.flat ≡ true }
         requires code { c < 128 }
@@ -213,7 +213,7 @@ impl<P: Pages> System<P> {
     }
 
     /// Whether a terminal has a job.
-    pub(crate) fn has_job(&self, t: Tty) -> bool
+    pub fn has_job(&self, t: Tty) -> bool
         requires { IsTerminal t }
         ensures { result ≡ is_some (job_at self.now.jobs.items t.0) }
     {

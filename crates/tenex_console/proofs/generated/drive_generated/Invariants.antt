@@ -1,7 +1,7 @@
 use Rattle.std.proofs.Common.{◌≡◌, ◌≤◌, length, true}
 use Rattle.script_texts.specs.Taker.{StaysOnward}
-use Rattle.monitor_core.specs.Machines.{Fits, auto, done, is_live, limit, plain}
-use Rattle.monitor_core.specs.Outcome.{DrumStays}
+use Rattle.machine_events.specs.Machines.{Fits, auto, done, is_live, limit, plain}
+use Rattle.machine_events.specs.Outcome.{DrumStays}
 use Rattle.tenex_console.proofs.Generating.{Generated, most_behind}
 use Rattle.tenex_console.proofs.Running.{SoFar}
 use Rattle.tenex_console.proofs.generated.drive_generated.Given as goal

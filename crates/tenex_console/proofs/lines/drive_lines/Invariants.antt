@@ -2,8 +2,8 @@ use Rattle.std.proofs.Common.{◌≡◌, ◌≤◌, ◌-◌, [], true}
 use Rattle.script_texts.specs.Script.{most_bytes}
 use Rattle.script_texts.specs.Taker.{StaysOnward}
 use Rattle.script_lang.specs.Lines.{IsOpen, given, lines_given, pending}
-use Rattle.monitor_core.specs.Machines.{Fits, auto, done, is_live, limit, plain}
-use Rattle.monitor_core.specs.Outcome.{DrumStays}
+use Rattle.machine_events.specs.Machines.{Fits, auto, done, is_live, limit, plain}
+use Rattle.machine_events.specs.Outcome.{DrumStays}
 use Rattle.tenex_console.proofs.Lined.{Lined, most_entries}
 use Rattle.tenex_console.proofs.Running.{SoFar}
 use Rattle.tenex_console.proofs.lines.drive_lines.Given as goal

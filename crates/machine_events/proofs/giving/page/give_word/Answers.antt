@@ -1,0 +1,35 @@
+use Rattle.std.proofs.Common.{◌∷◌, [], sym, ◌∙◌, ap, subst}
+use Rattle.std.proofs.lemmas.Bool.{ne_eqb}
+use Rattle.page_contracts.specs.Pages.{spot_of}
+use Rattle.plain_model.specs.FileEvents.{words_shown}
+use Rattle.machine_events.specs.Giving.{Takes}
+use Rattle.machine_events.proofs.Given.{took_nothing}
+use Rattle.monitor_calls.proofs.ShownWords.{no_word, shown_word, shown_zero, word_found}
+use Rattle.machine_events.proofs.giving.page.give_word.Goals as goal
+
+pub returns-then-value-eq0 : goal.returns-then-value-eq0
+returns-then-value-eq0 g c =
+    let means = g.P.Pages.means in
+    let pages = c.args.pages.now in
+    took_nothing (means.fits pages) g.T.Taker.fault_count g.T.Taker.onward g.T.Taker.stands g.T.Taker.cut c.args.out.now tt _
+    (λ d f. shown_zero c.args.offset _ (sym (word_found (means.plain pages d) (means.scene pages) (spot_of c.args.at) c.args.offset c.in-Is.word (c.in-Is.ensures.told d f)) ∙ sym c.value.ensures.value ∙ c.if-value-eq0.true))
+
+pub returns-else-value-eq0 : goal.returns-else-value-eq0
+returns-else-value-eq0 g c =
+    let means = g.P.Pages.means in
+    let pages = c.args.pages.now in
+    let offset = c.args.offset in
+    let word = c.in-Is.word in record {
+      taker = record { later = c.item.ensures.later; cause = c.item.ensures.cause; goes_on = c.item.ensures.onward };
+      given = λ d f.
+          let found = word_found (means.plain pages d) (means.scene pages) (spot_of c.args.at) offset word (c.in-Is.ensures.told d f) in
+          let shown = ap (λ w. words_shown offset (w ∷ [])) (sym found) ∙ shown_word offset word (ne_eqb word 0 (λ is. c.if-value-eq0.false (c.value.ensures.value ∙ is))) in
+          subst (λ is. Takes g.T.Taker.stands g.T.Taker.cut c.args.out.now c.item.new.self c.item.result is []) (sym shown) (record { ok = c.item.ensures.ok; err = c.item.ensures.err });
+    }
+
+pub returns-in-NoPage : goal.returns-in-NoPage
+returns-in-NoPage g c =
+    let means = g.P.Pages.means in
+    let pages = c.args.pages.now in
+    took_nothing (means.fits pages) g.T.Taker.fault_count g.T.Taker.onward g.T.Taker.stands g.T.Taker.cut c.args.out.now tt _
+    (λ d f. shown_zero c.args.offset _ (no_word (means.plain pages d) (means.scene pages) (spot_of c.args.at) c.args.offset c.requires.offset (c.in-NoPage.ensures.told d f)))

@@ -1,0 +1,35 @@
+use Rattle.std.proofs.Common.{refl, arith, subst, sym}
+use Rattle.plain_model.specs.Trees.{PlainTree}
+use Rattle.fork_lists.specs.Ties.{AreTied}
+use Rattle.job_sched.specs.Ties.{WaitsLess}
+use Rattle.job_sched.proofs.Waits.{less_none}
+use Rattle.step_shown.specs.Reaching.{EventReaches}
+use Rattle.machine_events.proofs.StepDid.{step_acted}
+use Rattle.monitor_core.proofs.Systems.{within_later}
+use Rattle.machine_events.proofs.machine.Machine.step.Goals as goal
+
+pub apply-reply-requires-clause-few : goal.apply-reply-requires-clause-few
+apply-reply-requires-clause-few g c = within_later c.args.self.now.system c.args.self.now.done _ c.args.self.now.within (omega (arith, c.requires.few))
+
+pub invariant_of-self : goal.invariant_of-self
+invariant_of-self g c = record {
+  flat = c.args.self.now.flat;
+  tied = subst (λ (x : PlainTree). AreTied x.forks c.follow_event.new.lists) c.forks.ensures.forks c.follow_event.ensures.tied;
+  calm = less_none c.follow_event.new.lists.sched.waiting (subst (λ ws. WaitsLess ws c.follow_event.new.lists.sched.waiting) c.args.self.now.calm c.follow_event.ensures.waits);
+  within = c.apply-reply.ensures.did.within c.args.self.now.done c.args.self.now.within;
+}
+
+pub follow_event-requires-clause-followed : goal.follow_event-requires-clause-followed
+follow_event-requires-clause-followed g c = record {
+  old = c.args.self.now.system.tree;
+  clock = c.apply-reply.new.self.panel.clock;
+  trees = c.trees.ensures;
+  tied = c.args.self.now.tied;
+  reaches = subst (λ (x : PlainTree). EventReaches c.args.e c.apply-reply.new.self.panel.clock c.args.self.now.system.tree x) (sym c.forks.ensures.forks) c.apply-reply.ensures.reach;
+}
+
+pub give_all-requires-clause-fits : goal.give_all-requires-clause-fits
+give_all-requires-clause-fits g c = c.requires.can
+
+pub returns : goal.returns
+returns g c = step_acted g.T.Taker.fault_count g.T.Taker.onward g.T.Taker.stands g.T.Taker.cut c.args.self.now _ c.args.out.now c.give_all.new.out c.give_all.result c.args.e c.apply-reply.result c.requires.can c.apply-reply.ensures.did c.give_all.ensures refl refl refl

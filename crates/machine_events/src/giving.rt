@@ -1,0 +1,11 @@
+// What a step shows, given to a taker item by item.
+mod echo;
+mod forks;
+mod listing;
+mod page;
+mod reply;
+mod text;
+mod unit;
+
+pub use echo::give_echo;
+pub use reply::give_all;
