@@ -3,8 +3,8 @@ ghost use Rattle.std.specs.Prelude.{◌≡◌, [], true};
 ghost use Rattle.fork_lists.specs.Ties.{AreTied};
 ghost use Rattle.monitor_core.specs.Systems.{IsWithin};
 
-use monitor_core::System;
 use fork_lists::ForkLists;
+use monitor_core::System;
 use page_contracts::Pages;
 
 /// Sizes of a machine: how many forks the balance set has at most, 1 to 63.

@@ -16,7 +16,7 @@ use Rattle.job_forks.specs.Limits.{IsBody}
 use Rattle.job_forks.proofs.Holdings.{holds_same, holds_still}
 use Rattle.job_forks.proofs.Places.{came_itself}
 use Rattle.monitor_calls.specs.ForkUnit.{CameOn, ComeOn, Kept, LeavesForks, put_back}
-use Rattle.monitor_calls.specs.Writing.{Makes, most_makings}
+use Rattle.monitor_calls.specs.Makings.{Makes, most_makings}
 use Rattle.monitor_calls.proofs.Keeping.{kept_body, more_keeps}
 use Rattle.monitor_calls.proofs.Sounds.{lives_now}
 

@@ -1,10 +1,7 @@
-mod Making
-pub mod Writes
 pub mod Maps
 mod MapFrom
 pub mod Lookups
 mod Kills
-pub mod ShownWords
 pub mod Silent
 mod UnitRan
 mod UnitRows

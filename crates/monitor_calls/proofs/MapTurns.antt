@@ -32,7 +32,7 @@ use Rattle.monitor_calls.specs.declared.job.Job.{Job}
 use Rattle.monitor_calls.specs.declared.typing.Typing.{Typing}
 use Rattle.monitor_calls.specs.ForkUnit.{Tables, TurnedSo, parts_in, rest_of}
 use Rattle.monitor_calls.specs.Jobs.{AreUnheld, job_at, jobs_of}
-use Rattle.monitor_calls.specs.Writing.{most_makings}
+use Rattle.monitor_calls.specs.Makings.{most_makings}
 use Rattle.monitor_calls.proofs.Calling.{maps_went, turned_so}
 use Rattle.monitor_calls.proofs.JfnsAsked.{none_held}
 use Rattle.monitor_calls.proofs.Lookups.{job_found, job_missing}

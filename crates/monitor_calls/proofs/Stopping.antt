@@ -29,7 +29,7 @@ use Rattle.step_shown.specs.declared.reach.Reach.{Reach}
 use Rattle.monitor_calls.specs.declared.units.Units.{Units}
 use Rattle.monitor_calls.specs.ForkUnit.{CallWaits, Kept, LeavesForks, RanUnits, RanUpTo, Rest, Tables, UnitWaits, UnitsRan, left_so, put_back, ran_on, rest_of}
 use Rattle.step_shown.specs.Shown.{nothing}
-use Rattle.monitor_calls.specs.Writing.{Makes, most_makings}
+use Rattle.monitor_calls.specs.Makings.{Makes, most_makings}
 use Rattle.monitor_calls.proofs.JfnsAsked.{dir_stays}
 use Rattle.monitor_calls.proofs.Leaving.{came_less, leaves_one, leaves_then}
 use Rattle.monitor_calls.proofs.UnitRan.{row_ran}

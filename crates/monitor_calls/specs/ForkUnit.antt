@@ -48,7 +48,7 @@ use Rattle.monitor_calls.specs.declared.typing.Typing.{Typing}
 use Rattle.monitor_calls.specs.Jobs.{AreUnheld, job_at, jobs_of}
 use Rattle.monitor_calls.specs.Limits.{FitsForced, IsBody, unit_frames}
 use Rattle.step_shown.specs.Shown.{FitsShown, nothing, shown_of, stands}
-use Rattle.monitor_calls.specs.Writing.{Makes, most_makings}
+use Rattle.monitor_calls.specs.Makings.{Makes, most_makings}
 use Rattle.step_shown.specs.declared.shown.Shown.{Shown}
 use Rattle.step_shown.specs.declared.shown.Stop.TheVariants.{GoesOn, Forced}
 use Rattle.monitor_calls.specs.declared.unit.Row.{Row}

@@ -28,7 +28,7 @@ ghost use Rattle.step_shown.specs.Reaching.{Reaches};
 ghost use Rattle.monitor_calls.specs.Reaching.{reach_of};
 ghost use Rattle.step_shown.specs.Shown.{shown_of};
 ghost use Rattle.monitor_calls.specs.Jobs.{AreUnheld};
-ghost use Rattle.monitor_calls.specs.Writing.{most_makings};
+ghost use Rattle.monitor_calls.specs.Makings.{most_makings};
 ghost use Rattle.monitor_calls.specs.ForkUnit.{CallWaits, Called, HasJob, Place as APlace, Turns, answered as answered_of, fork_of, line_behind, out_in, tables_in};
 
 use crate::job::Job;

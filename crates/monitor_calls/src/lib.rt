@@ -8,10 +8,8 @@ mod job;
 mod typing;
 mod unit;
 mod units;
-mod writing;
 
 pub use job::{Job, empty_jobs, seen, seen_stop};
 pub use typing::{Typing, empty_typings};
 pub use unit::channel_of;
 pub use units::{Units, units_of};
-pub use writing::{Barred, write_row, write_word};

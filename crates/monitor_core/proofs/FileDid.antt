@@ -43,11 +43,12 @@ use Rattle.monitor_core.specs.declared.panel.Panel.{Panel}
 use Rattle.step_shown.specs.declared.reply.Reply.{Reply}
 use Rattle.step_shown.specs.declared.reply.Reply.TheVariants.{Nothing, One, Page as ShowsPage}
 use Rattle.monitor_core.specs.declared.system.System.{System}
-use Rattle.monitor_calls.specs.declared.writing.Barred.{Barred}
+use Rattle.console_access.specs.declared.writing.Barred.{Barred}
 use Rattle.monitor_calls.specs.Jobs.{jobs_of}
 use Rattle.step_shown.specs.Replies.{FitsReply, page_items, reply_items}
 use Rattle.monitor_core.specs.Systems.{Did, FitsPages, IsWithin, named, state_of}
-use Rattle.monitor_calls.specs.Writing.{IsRowWritten, Makes, left_by, write_of}
+use Rattle.monitor_calls.specs.Makings.{Makes}
+use Rattle.console_access.specs.Writing.{IsRowWritten, left_by, write_of}
 use Rattle.monitor_core.proofs.FileReferences.{named_result, page_is, row_files, row_named, write_filed, write_named}
 use Rattle.monitor_core.proofs.JobDid.{did_still, was_granted}
 use Rattle.monitor_core.proofs.NamedPages.{filed_made, named_made}

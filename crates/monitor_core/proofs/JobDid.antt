@@ -47,16 +47,17 @@ use Rattle.monitor_core.specs.declared.system.System.{System}
 use Rattle.monitor_core.specs.JobEvents.{event_at}
 use Rattle.monitor_calls.specs.Jobs.{jobs_of, job_at, plain_job}
 use Rattle.monitor_calls.specs.Typings.{typing_at}
-use Rattle.monitor_core.specs.Looking.{word_in, examined_in, item_of}
+use Rattle.console_access.specs.Looking.{word_in, examined_in, item_of}
 use Rattle.step_shown.specs.Replies.{reply_items, FitsReply}
 use Rattle.plain_files.specs.NamedFiles.{pages_named}
 use Rattle.plain_files.specs.OpenFiles.{open_at}
 use Rattle.file_tables.specs.Tables.{files_of, open_of}
 use Rattle.monitor_core.specs.Systems.{named, state_of, FitsPages, Did}
-use Rattle.monitor_calls.specs.declared.writing.Barred.{Barred}
-use Rattle.monitor_calls.specs.declared.writing.Barred.TheVariants.{ByMap, ByDrum}
-use Rattle.monitor_calls.specs.Writing.{write_of, left_by, poke_refusal, refused_by, IsWritten, Makes, Writes, with_accumulator}
-use Rattle.monitor_core.proofs.Looks.{below, not_below}
+use Rattle.console_access.specs.declared.writing.Barred.{Barred}
+use Rattle.console_access.specs.declared.writing.Barred.TheVariants.{ByMap, ByDrum}
+use Rattle.monitor_calls.specs.Makings.{Makes}
+use Rattle.console_access.specs.Writing.{write_of, left_by, poke_refusal, refused_by, IsWritten, Writes, with_accumulator}
+use Rattle.console_access.proofs.Looks.{below, not_below}
 use Rattle.monitor_calls.proofs.Lookups.{job_found, job_missing, jobs_set}
 use Rattle.monitor_calls.proofs.Sounds.{split_at}
 use Rattle.monitor_core.proofs.Systems.{change_is, fits_left, fits_still, serials_made, state_left, units_change}

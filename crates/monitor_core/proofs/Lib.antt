@@ -1,4 +1,3 @@
-mod Looks
 mod Rooms
 mod Filed
 mod Inspected
@@ -6,7 +5,6 @@ mod NamedPages
 mod FileReferences
 pub mod FileDid
 mod Told
-mod Changing
 pub mod Systems
 mod Running
 mod CallerStays

@@ -11,12 +11,13 @@ use Rattle.machine_names.specs.declared.names.TheConstants.{ACCUMULATORS}
 use Rattle.plain_model.specs.Commands.{restarted}
 use Rattle.machine_names.specs.declared.names.Tty.{Tty}
 use Rattle.std.proofs.lemmas.Bool.{cases_eq}
-use Rattle.monitor_calls.specs.Writing.{Makes, most_makings, with_accumulator}
+use Rattle.monitor_calls.specs.Makings.{Makes, most_makings}
+use Rattle.console_access.specs.Writing.{with_accumulator}
 use Rattle.fork_tree.specs.Trees.{IsTree, Lives}
 use Rattle.fork_tree.proofs.Slots.{held_lives}
 use Rattle.monitor_calls.specs.declared.job.Job.{Job}
 use Rattle.monitor_core.specs.declared.system.System.{System}
-use Rattle.monitor_calls.specs.Holding.{Holds}
+use Rattle.console_access.specs.Holding.{Holds}
 use Rattle.page_contracts.specs.DrumWords.{DrumWords}
 use Rattle.plain_files.specs.OpenFiles.{OpenFiles}
 use Rattle.plain_files.specs.NamedFiles.{AreFiled}

@@ -48,7 +48,7 @@ use Rattle.file_tables.specs.Keys.{key_of}
 use Rattle.plain_files.specs.OpenFiles.{OpenFiles}
 use Rattle.file_tables.specs.Tables.{files_of, open_of}
 use Rattle.monitor_core.specs.Systems.{DidAll, FitsPages, IsWithin, Waits, named, state_of}
-use Rattle.monitor_calls.specs.Writing.{most_makings}
+use Rattle.monitor_calls.specs.Makings.{most_makings}
 use Rattle.monitor_core.proofs.Told.{end_keeps}
 use Rattle.monitor_calls.proofs.Lookups.{job_found, job_missing, jobs_set}
 use Rattle.monitor_core.proofs.Rows.{Entries, units_as}

@@ -1,4 +1,3 @@
-pub mod Looking
 pub mod JobEvents
 pub mod Systems
 pub mod Effects

@@ -23,7 +23,7 @@ use Rattle.step_shown.specs.declared.reply.Reply.{Reply}
 use Rattle.monitor_core.specs.declared.system.System.{System}
 use Rattle.monitor_calls.specs.Jobs.{jobs_of}
 use Rattle.step_shown.specs.Replies.{reply_items, FitsReply}
-use Rattle.monitor_calls.specs.Writing.{most_makings}
+use Rattle.monitor_calls.specs.Makings.{most_makings}
 
 -- the pages of a state, which knows files by their names, where the pages know them by number
 abbrev pub named : Files → NumberedPages → NamedPages

@@ -4,12 +4,8 @@
 //! calls, and on `job_commands` for what users type to the monitor.
 #![tactic(auto)]
 
-mod address;
-mod forks;
 mod job_event;
-mod looking;
 mod panel;
-mod reaching;
 mod system;
 
 pub use system::System;

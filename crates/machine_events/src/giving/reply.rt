@@ -31,11 +31,7 @@ fn give_steps<T: Taker>(step: &Step, count: u32, out: &mut T) -> Result<(), Fail
 
 // Gives the items of a reply, one by one.
 #[inline(always)]
-fn give<P: Pages, T: Taker>(
-    system: &System<P>,
-    reply: Reply,
-    out: &mut T,
-) -> Result<(), Failed>
+fn give<P: Pages, T: Taker>(system: &System<P>, reply: Reply, out: &mut T) -> Result<(), Failed>
     requires reply { FitsReply reply }
     requires flat { P.means.flat ≡ true }
     ensures { TookOver (FitsPages system.now) T.fault_count T.onward T.stands T.cut out.old out.new result (λ d. reply_items (state_of system.now d) reply) [] }

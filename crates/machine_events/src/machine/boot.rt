@@ -9,8 +9,8 @@ ghost use Rattle.machine_names.specs.declared.names.Tty.{Tty as ATty};
 ghost use Rattle.machine_events.specs.Machines.{Fits, plain, limit, done, auto, is_live};
 
 use crate::machine::{Config, Machine};
-use monitor_core::System;
 use fork_lists::ForkLists;
+use monitor_core::System;
 use outside::Memory;
 use page_contracts::Pages;
 use std::alloc::Global;

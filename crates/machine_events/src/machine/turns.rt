@@ -60,7 +60,13 @@ impl<P: Pages> Machine<P> {
         );
         self.lists.sound();
         self.done += u64::from(done.count);
-        give_all(&self.system, &Step::Unit(who.fork), done.count, done.reply, out)?;
+        give_all(
+            &self.system,
+            &Step::Unit(who.fork),
+            done.count,
+            done.reply,
+            out,
+        )?;
         Ok(done.count)
     }
 

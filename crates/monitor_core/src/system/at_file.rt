@@ -8,10 +8,9 @@ ghost use Rattle.script_texts.specs.declared.event.Step.{Step as AStep};
 ghost use Rattle.step_shown.specs.Replies.{reply_of};
 ghost use Rattle.monitor_core.specs.Systems.{Did, IsWithin};
 
-use crate::reaching::reach;
 use crate::system::System;
+use console_access::{reach, write_row};
 use machine_names::{FileName, PAGE_ADDRESSES, Place, Tty};
-use monitor_calls::write_row;
 use page_contracts::Pages;
 use script_texts::{Refusal, WordRow};
 use step_shown::Reply;

@@ -7,9 +7,9 @@ ghost use Rattle.monitor_core.specs.JobEvents.{event_at, FitsJobEvent};
 ghost use Rattle.step_shown.specs.Replies.{reply_of};
 ghost use Rattle.monitor_core.specs.Systems.{Did, IsWithin};
 
-use crate::forks::{examined, poke, start};
 use crate::job_event::JobEvent;
 use crate::system::System;
+use console_access::{examined, poke, start};
 use machine_names::Tty;
 use page_contracts::Pages;
 use plain_model::TerminalMode;

@@ -6,8 +6,8 @@ ghost use Rattle.plain_model.specs.Commands.{commanded, delete_file as delete_fi
 ghost use Rattle.step_shown.specs.Echoes.{told_items};
 ghost use Rattle.monitor_core.specs.Effects.{Has, HasJobAt, job_in};
 
-use crate::forks::start;
 use crate::system::System;
+use console_access::start;
 use job_commands::{delete, go_on, log_out, run};
 use machine_names::{FileName, Tty};
 use monitor_calls::Job;

@@ -41,7 +41,7 @@ use Rattle.monitor_calls.proofs.Calling.{clock_went, done_so, files_went, has_re
 use Rattle.monitor_calls.specs.Limits.{unit_frames}
 use Rattle.monitor_calls.specs.ForkUnit.{Tables, line_behind, parts_in, rest_of}
 use Rattle.monitor_calls.specs.Jobs.{job_at, jobs_of}
-use Rattle.monitor_calls.specs.Writing.{most_makings}
+use Rattle.monitor_calls.specs.Makings.{most_makings}
 use Rattle.monitor_calls.proofs.ByteTurns.{byte_turned, has_line, string_turned}
 use Rattle.monitor_calls.proofs.JfnTurns.{jfn_turned}
 use Rattle.monitor_calls.proofs.MapTurns.{map_grows, map_turned, map_unmade}

@@ -15,7 +15,7 @@ use Rattle.job_forks.specs.Holding.{Holds}
 use Rattle.job_forks.specs.Limits.{AreWithin}
 use Rattle.job_forks.proofs.Holdings.{holds_still}
 use Rattle.monitor_calls.specs.Limits.{CanUnit}
-use Rattle.monitor_calls.specs.Writing.{Makes}
+use Rattle.monitor_calls.specs.Makings.{Makes}
 use Rattle.monitor_calls.specs.ForkUnit.{CallWaits, FitsLast, HasRoom, IsMet, IsRow, LastNeeds, Kept, LeavesForks, Place, Ran, RanUnits, Tables, called_behind, fork_of, makings_of, put_back, rest_of}
 use Rattle.monitor_calls.proofs.Calling.{body_has, left_tree, still_in}
 use Rattle.monitor_calls.proofs.JfnsAsked.{dir_stays}

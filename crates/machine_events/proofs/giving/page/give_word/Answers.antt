@@ -4,7 +4,7 @@ use Rattle.page_contracts.specs.Pages.{spot_of}
 use Rattle.plain_model.specs.FileEvents.{words_shown}
 use Rattle.machine_events.specs.Giving.{Takes}
 use Rattle.machine_events.proofs.Given.{took_nothing}
-use Rattle.monitor_calls.proofs.ShownWords.{no_word, shown_word, shown_zero, word_found}
+use Rattle.console_access.proofs.ShownWords.{no_word, shown_word, shown_zero, word_found}
 use Rattle.machine_events.proofs.giving.page.give_word.Goals as goal
 
 pub returns-then-value-eq0 : goal.returns-then-value-eq0

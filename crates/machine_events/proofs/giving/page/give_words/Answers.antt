@@ -9,7 +9,7 @@ use Rattle.script_texts.specs.Taker.{GoesOn}
 use Rattle.script_texts.proofs.Takers.{goes_on_append, onward_then}
 use Rattle.machine_events.specs.Giving.{Takes}
 use Rattle.machine_events.proofs.Given.{on_err, takes_part, takes_then}
-use Rattle.monitor_calls.proofs.ShownWords.{all_words, one_more_word, words_split}
+use Rattle.console_access.proofs.ShownWords.{all_words, one_more_word, words_split}
 use Rattle.machine_events.proofs.giving.page.give_words.Goals as goal
 
 pub loop-offset-preserved : goal.loop-offset-preserved

@@ -7,17 +7,17 @@ use Rattle.fork_tree.proofs.Slots.{held_lives}
 use Rattle.monitor_calls.specs.declared.job.Job.{Job}
 use Rattle.step_shown.specs.declared.reply.Reply.TheVariants.{One}
 use Rattle.monitor_core.specs.JobEvents.{FitsJobEvent}
-use Rattle.monitor_core.specs.Looking.{item_of}
+use Rattle.console_access.specs.Looking.{item_of}
 use Rattle.step_shown.specs.Replies.{reply_of}
 use Rattle.monitor_calls.specs.Sound.{AreSound}
 use Rattle.monitor_calls.proofs.Sounds.{entry_read, job_read, same_tops_set, sound_change}
 use Rattle.file_tables.specs.Tables.{open_of}
 use Rattle.monitor_calls.specs.Jobs.{AreUnheld}
 use Rattle.monitor_core.proofs.Systems.{unheld_still, holds_fork, holds_top, sound_poked, restarted_body, top_fork_of}
-use Rattle.monitor_calls.proofs.Writes.{errs}
+use Rattle.console_access.proofs.Writes.{errs}
 use Rattle.monitor_core.proofs.JobDid.{did_no_job, did_poke, did_start, did_examine, did_forks, poke_reply, put_back}
 use Rattle.monitor_core.proofs.JobOthers.{top_changed, top_poked}
-use Rattle.monitor_calls.specs.Writing.{with_accumulator}
+use Rattle.console_access.specs.Writing.{with_accumulator}
 use Rattle.monitor_core.proofs.system.System.at_job.Goals as goal
 
 pub returns-in_default-clause-did : goal.returns-in_default-clause-did

@@ -1,8 +1,8 @@
 use Rattle.std.proofs.Common.{◌≡◌, true, refl, sym, ◌∙◌, subst, arith}
 use Rattle.page_contracts.specs.declared.answers.Touch.TheVariants.{Ready}
 use Rattle.page_contracts.specs.Pages.{SettlesTo, is_in_core, spot_of}
-use Rattle.monitor_calls.proofs.Writes.{readied_as, ready_refers, copy_refers, zero_refers, denied_refers, full_refers, settles_ready}
-use Rattle.monitor_calls.proofs.writing.readied.Goals as goal
+use Rattle.console_access.proofs.Writes.{readied_as, ready_refers, copy_refers, zero_refers, denied_refers, full_refers, settles_ready}
+use Rattle.console_access.proofs.writing.readied.Goals as goal
 
 pub returns-in-Ready-clause-told : goal.returns-in-Ready-clause-told
 returns-in-Ready-clause-told g c d f =

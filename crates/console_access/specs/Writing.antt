@@ -10,8 +10,8 @@ use Rattle.plain_model.specs.declared.fork.Fork.{Fork}
 use Rattle.plain_model.specs.Calls.{with_ac}
 use Rattle.plain_model.specs.Forks.{with_regs}
 use Rattle.plain_pages.specs.PlainPages.{NumberedPages}
-use Rattle.monitor_calls.specs.declared.writing.Barred.{Barred}
-use Rattle.monitor_calls.specs.declared.writing.Barred.TheVariants.{ByMap, ByDrum}
+use Rattle.console_access.specs.declared.writing.Barred.{Barred}
+use Rattle.console_access.specs.declared.writing.Barred.TheVariants.{ByMap, ByDrum}
 use Rattle.plain_pages.specs.References.{Spot, Referred, granted, denied, full, in_map, reference, stored}
 use Rattle.plain_model.specs.FileEvents.{stored_row}
 use Rattle.page_contracts.specs.DrumWords.{DrumWords}
@@ -66,22 +66,3 @@ pub record IsRowWritten {X : Type 0} (p q : NumberedPages) (at : Spot ℕ) (owne
   pub readied : IsReadied p ready at owner result
   pub store : OnOk result (q ≡ stored_row ready at offset words)
   pub stays : OnErr result (q ≡ p)
-
--- so many pages at most are made in one entry: two for each reference that a unit has room for
-abbrev pub most_makings : ℕ
-most_makings = 129
-
--- pages were made for an owner, so many at most: the forks that live are the same, and so are the next serials of other owners
-pub record Makes {P : Type 0} (means : PagesMeaning P) (old new : P) (owner : Tty) (count : ℕ) : Type 0 where
-  pub lives : means.lives new ≡ means.lives old
-  pub forks : means.forks_of new ≡ means.forks_of old
-  pub most : means.most new ≡ means.most old
-  pub own : means.serial new owner ≤ means.serial old owner + count
-  pub others : (t : Tty) → t ≢ owner → means.serial new t ≡ means.serial old t
-
--- no page was made: the same, for whatever owner
-pub record MakesNone {P : Type 0} (means : PagesMeaning P) (old new : P) : Type 0 where
-  pub lives : means.lives new ≡ means.lives old
-  pub forks : means.forks_of new ≡ means.forks_of old
-  pub most : means.most new ≡ means.most old
-  pub serials : means.serial new ≡ means.serial old

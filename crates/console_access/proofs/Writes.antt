@@ -15,9 +15,9 @@ use Rattle.page_contracts.specs.Pages.{Scene, touch_of, SettlesTo, is_in_core}
 use Rattle.plain_pages.proofs.ReferencesMade.{reference_stays, reference_settled, settled_makes}
 use Rattle.page_contracts.proofs.Touches.{ready_touch, zero_touch, copy_touch, denied_touch, full_touch}
 use Rattle.plain_pages.proofs.Settles.{makings_settled}
-use Rattle.monitor_calls.specs.declared.writing.Barred.TheVariants.{ByMap, ByDrum}
-use Rattle.monitor_calls.specs.Writing.{write_of, IsReadied}
-use Rattle.monitor_calls.proofs.Making.{copy_last_at}
+use Rattle.console_access.specs.declared.writing.Barred.TheVariants.{ByMap, ByDrum}
+use Rattle.console_access.specs.Writing.{write_of, IsReadied}
+use Rattle.console_access.proofs.Making.{copy_last_at}
 
 module _ (p : NumberedPages) (at : Spot ℕ) (owner : Tty) where
   abbrev Refers : NumberedPages → Type 0

@@ -7,8 +7,9 @@ ghost use Rattle.script_texts.specs.Limits.{FitsCause, FitsRow};
 ghost use Rattle.page_contracts.specs.DrumWords.{DrumWords};
 ghost use Rattle.page_contracts.specs.Pages.{IsPlace, spot_of};
 ghost use Rattle.plain_model.specs.FileEvents.{stored_row};
-ghost use Rattle.monitor_calls.specs.Holding.{Holds};
-ghost use Rattle.monitor_calls.specs.Writing.{IsReadied, IsRowWritten, Makes, MakesNone, Writes, poke_refusal as refusal_of};
+ghost use Rattle.console_access.specs.Holding.{Holds};
+ghost use Rattle.monitor_calls.specs.Makings.{Makes, MakesNone};
+ghost use Rattle.console_access.specs.Writing.{IsReadied, IsRowWritten, Writes, poke_refusal as refusal_of};
 
 use machine_names::{Kind, Place, SPACE_PAGES, Slot, Tty};
 use page_contracts::{Pages, Touch};

@@ -12,8 +12,8 @@ use Rattle.plain_model.specs.declared.fork.Fork.{Fork}
 use Rattle.plain_pages.specs.PlainPages.{NumberedPages}
 use Rattle.plain_pages.specs.References.{in_map, page_at, words_of, slot_at}
 use Rattle.page_contracts.specs.Pages.{Scene, peek_of}
-use Rattle.monitor_core.specs.Looking.{word_in}
-use Rattle.monitor_calls.proofs.ShownWords.{looked}
+use Rattle.console_access.specs.Looking.{word_in}
+use Rattle.console_access.proofs.ShownWords.{looked}
 
 pub below : (a : ℕ) → a < ACCUMULATORS → nat_lt a ACCUMULATORS ≡ true
 below a h = grind (arith, nat_tests)

@@ -1,8 +1,8 @@
 use Rattle.std.proofs.Common.{sym, subst}
 use Rattle.page_contracts.specs.Pages.{spot_of}
-use Rattle.monitor_calls.specs.Writing.{IsRowWritten}
-use Rattle.monitor_calls.proofs.Writes.{errs}
-use Rattle.monitor_calls.proofs.writing.write_row.Goals as goal
+use Rattle.console_access.specs.Writing.{IsRowWritten}
+use Rattle.console_access.proofs.Writes.{errs}
+use Rattle.console_access.proofs.writing.write_row.Goals as goal
 
 pub returns-clause-told : goal.returns-clause-told
 returns-clause-told g c d f =

@@ -1,5 +1,5 @@
-use Rattle.monitor_core.proofs.Looks.{looks, word_found, none_found}
-use Rattle.monitor_core.proofs.looking.seen_word.Goals as goal
+use Rattle.console_access.proofs.Looks.{looks, word_found, none_found}
+use Rattle.console_access.proofs.looking.seen_word.Goals as goal
 
 pub returns-in-Is-clause-told : goal.returns-in-Is-clause-told
 returns-in-Is-clause-told g c d f =

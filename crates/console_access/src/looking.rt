@@ -3,8 +3,8 @@ ghost use Rattle.std.specs.Prelude.{◌≡◌, ◌<◌, IfErr, IfOk, IsOk, lengt
 ghost use Rattle.machine_names.specs.Bounds.{IsAddress};
 ghost use Rattle.page_contracts.specs.DrumWords.{DrumWords};
 ghost use Rattle.page_contracts.specs.Stores.{IsNeeded};
-ghost use Rattle.monitor_calls.specs.Holding.{Holds};
-ghost use Rattle.monitor_core.specs.Looking.{word_in};
+ghost use Rattle.console_access.specs.Holding.{Holds};
+ghost use Rattle.console_access.specs.Looking.{word_in};
 
 use crate::address::{offset_in_page, slot_at};
 use machine_names::{ACCUMULATORS, Place};

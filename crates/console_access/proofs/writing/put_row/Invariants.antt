@@ -2,7 +2,7 @@ use Rattle.std.proofs.Common.{◌≡◌, ◌≤◌, take}
 use Rattle.page_contracts.specs.DrumWords.{DrumWords}
 use Rattle.page_contracts.specs.Pages.{StaysPut, spot_of}
 use Rattle.plain_model.specs.FileEvents.{stored_row}
-use Rattle.monitor_calls.proofs.writing.put_row.Given as goal
+use Rattle.console_access.proofs.writing.put_row.Given as goal
 
 abbrev pub invariant-loop-i : goal.invariant-loop-i
 invariant-loop-i g l = record {

@@ -4,8 +4,8 @@ use Rattle.page_contracts.specs.Pages.{spot_of}
 use Rattle.plain_pages.specs.References.{stored}
 use Rattle.std.specs.Prelude.{slice_index_or}
 use Rattle.ka10_spots.proofs.Used.{stays_on}
-use Rattle.monitor_calls.proofs.ShownWords.{stored_next}
-use Rattle.monitor_calls.proofs.writing.put_row.Goals as goal
+use Rattle.console_access.proofs.ShownWords.{stored_next}
+use Rattle.console_access.proofs.writing.put_row.Goals as goal
 
 pub loop-i-preserved : goal.loop-i-preserved
 loop-i-preserved g c =

@@ -1,6 +1,6 @@
 use Rattle.std.proofs.Common.{refl, ap}
 use Rattle.std.specs.Prelude.{Ok, Err}
-use Rattle.monitor_calls.proofs.writing.write_word.Goals as goal
+use Rattle.console_access.proofs.writing.write_word.Goals as goal
 
 pub returns-in-Ok-clause-told : goal.returns-in-Ok-clause-told
 returns-in-Ok-clause-told g c = record {

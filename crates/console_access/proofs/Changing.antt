@@ -8,7 +8,7 @@ use Rattle.plain_model.specs.declared.fork.Body.{Body}
 use Rattle.plain_model.specs.declared.fork.Fork.{Fork}
 use Rattle.script_texts.specs.declared.status.ForkStatus.TheVariants.{Run}
 use Rattle.plain_model.specs.Commands.{restarted}
-use Rattle.monitor_calls.specs.Writing.{with_accumulator}
+use Rattle.console_access.specs.Writing.{with_accumulator}
 use Rattle.plain_model.specs.Forks.{ForkMap}
 use Rattle.machine_names.proofs.OrderLemmas.{fork_cmp_total, fork_cmp_apart}
 use Rattle.plain_model.specs.Trees.{changed, with_body, with_mark, PlainTree, with_changed_of}

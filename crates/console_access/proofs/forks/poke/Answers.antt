@@ -1,9 +1,9 @@
 use Rattle.std.proofs.Common.{◌%◌, refl, ◌∙◌, subst}
 use Rattle.outside.specs.declared.TheConstants.{PAGE_WORDS}
-use Rattle.monitor_calls.specs.Writing.{Writes, with_accumulator}
-use Rattle.monitor_core.proofs.Changing.{poked_tree, unchanged_tree}
-use Rattle.monitor_core.proofs.forks.poke.Goals as goal
-use Rattle.monitor_core.proofs.forks.poke.Goals.{in-Some, in_default}
+use Rattle.console_access.specs.Writing.{Writes, with_accumulator}
+use Rattle.console_access.proofs.Changing.{poked_tree, unchanged_tree}
+use Rattle.console_access.proofs.forks.poke.Goals as goal
+use Rattle.console_access.proofs.forks.poke.Goals.{in-Some, in_default}
 
 pub returns-then-address-lt-ACCUMULATORS-clause-low : goal.returns-then-address-lt-ACCUMULATORS-clause-low
 returns-then-address-lt-ACCUMULATORS-clause-low g c low = (

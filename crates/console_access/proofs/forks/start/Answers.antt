@@ -5,8 +5,8 @@ use Rattle.fork_tree.specs.Changes.{with_body_of}
 use Rattle.plain_model.specs.Trees.{PlainTree}
 use Rattle.plain_model.specs.declared.fork.Body.{Body}
 use Rattle.script_texts.specs.declared.status.ForkStatus.TheVariants.{Run}
-use Rattle.monitor_core.proofs.Changing.{started_tree, still_there}
-use Rattle.monitor_core.proofs.forks.start.Goals as goal
+use Rattle.console_access.proofs.Changing.{started_tree, still_there}
+use Rattle.console_access.proofs.forks.start.Goals as goal
 
 pub returns-in-Some : goal.returns-in-Some
 returns-in-Some c =

@@ -1,0 +1,5 @@
+pub mod ShownWords
+mod Looks
+mod Changing
+mod Making
+pub mod Writes
