@@ -12,4 +12,4 @@ mod units;
 pub use job::{Job, empty_jobs, seen, seen_stop};
 pub use typing::{Typing, empty_typings};
 pub use unit::channel_of;
-pub use units::{Units, units_of};
+pub use units::{Units, units_with_call};

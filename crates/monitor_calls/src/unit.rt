@@ -185,7 +185,7 @@ fn row_of(before: u32, last: Last) -> Row
 /// them, where there is room for it; but one alone where the fork looks at its channels first. A monitor call is left to be made, and so is
 /// a unit that needs something first.
 #[inline]
-pub fn run_units<P: Pages>(
+pub fn units_to_call<P: Pages>(
     body: &mut Body,
     fork: ForkName,
     pages: &mut P,

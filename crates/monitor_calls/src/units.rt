@@ -15,7 +15,7 @@ ghost use Rattle.step_shown.specs.Shown.{nothing};
 use crate::calls::{called, reach_of};
 use crate::job::Job;
 use crate::typing::Typing;
-use crate::unit::{Last, run_units};
+use crate::unit::{Last, units_to_call};
 use file_tables::FileTables;
 use fork_tree::Tree;
 use page_contracts::{Need, Pages};
@@ -49,7 +49,7 @@ fn done_before(count: u32, need: Need, reach: Reach) -> Result<Units, Need>
 /// back among the others, since it looks at all. Err: the first unit needs this first, and nothing was changed; a later one that
 /// needs something first is left for the next row.
 #[inline]
-pub fn units_of<P: Pages>(
+pub fn units_with_call<P: Pages>(
     tree: &mut Tree,
     pages: &mut P,
     files: &mut FileTables,
@@ -82,7 +82,7 @@ pub fn units_of<P: Pages>(
     ensures few { IfOk result (λ units. units.count ≤ most) }
 {
     let body = tree.body_at(who.fork.tty, who.slot);
-    let row = run_units(body, who.fork, pages, scratch, most);
+    let row = units_to_call(body, who.fork, pages, scratch, most);
     match row.last {
         Last::Shows(shown) => Ok(Units {
             count: row.count,

@@ -37,7 +37,7 @@ impl<P: Pages> Machine<P> {
 
     // Units of a fork that can run, in a row, so many at most.
     #[inline]
-    fn units<T: Taker>(&mut self, who: Runner, most: u32, out: &mut T) -> Result<u32, Failed>
+    fn run_head<T: Taker>(&mut self, who: Runner, most: u32, out: &mut T) -> Result<u32, Failed>
         requires can { IsRunner self.old.system.tree who }
         requires head { IsHead self.old.lists.sched who.fork }
         requires row { IsRow most self.old.lists.sched }
@@ -46,7 +46,7 @@ impl<P: Pages> Machine<P> {
         ensures { TookTurns T.fault_count T.onward T.stands T.cut self.old self.new out.old out.new result most }
     {
         self.lists.sound();
-        let done = match self.system.units(who, most) {
+        let done = match self.system.run_fork(who, most) {
             Ok(done) => done,
             // Pages in memory alone need nothing first.
             Err(_) => unreachable!(),
@@ -85,7 +85,7 @@ impl<P: Pages> Machine<P> {
     // The next turns of a run, so many at most: units of the fork whose turn is next, to the end of its quantum where another can run too; or as
     // many idle entries, where none can. Says how many.
     #[inline]
-    fn turns<T: Taker>(&mut self, left: u32, out: &mut T) -> Result<u32, Failed>
+    fn next_turns<T: Taker>(&mut self, left: u32, out: &mut T) -> Result<u32, Failed>
         requires some { 1 ≤ left }
         requires few { done self.old < 2 ^ 52 }
         ensures { TookTurns T.fault_count T.onward T.stands T.cut self.old self.new out.old out.new result left }
@@ -94,7 +94,7 @@ impl<P: Pages> Machine<P> {
             Some(fork) => {
                 let who = self.system.runner(fork);
                 let most = self.lists.most_in_row(left);
-                self.units(who, most, out)
+                self.run_head(who, most, out)
             }
             None => self.idle(left, out),
         }
@@ -108,7 +108,7 @@ impl<P: Pages> Machine<P> {
         self.lists.sound();
         let mut left = n;
         while left > 0 {
-            left -= self.turns(left, out)?;
+            left -= self.next_turns(left, out)?;
         }
         Ok(())
     }

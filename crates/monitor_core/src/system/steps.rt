@@ -14,7 +14,7 @@ use crate::job_event::JobEvent;
 use crate::system::System;
 use fork_tree::Tree;
 use machine_names::ForkName;
-use monitor_calls::{seen, units_of};
+use monitor_calls::{seen, units_with_call};
 use page_contracts::{Need, Pages};
 use script_texts::{Event, Item, Refusal};
 use step_shown::{Progress, Reach, Reply, Runner};
@@ -70,7 +70,7 @@ impl<P: Pages> System<P> {
     /// terminal; where each unit is shown, one alone, behind its line. Where it stops, who waits for a fork of its job runs again, and then
     /// its superior is told by a channel. Err: the first needs this first, and nothing is done.
     #[inline]
-    pub fn units(&mut self, who: Runner, most: u32) -> Result<Progress, Need>
+    pub fn run_fork(&mut self, who: Runner, most: u32) -> Result<Progress, Need>
         requires can { IsRunner self.old.tree who }
         requires few { IsWithin self.old (2 ^ 52) }
         requires some { 0 < most }
@@ -83,7 +83,7 @@ impl<P: Pages> System<P> {
         ensures few { IfOk result (λ done. done.count ≤ most) }
     {
         let line = self.line_before(who);
-        let ran = units_of(
+        let ran = units_with_call(
             &mut self.tree,
             &mut self.pages,
             &mut self.files,

@@ -23,7 +23,7 @@ loop-left-init g c = record {
 pub loop-left-preserved : goal.loop-left-preserved
 loop-left-preserved g c =
     let i = c.loop-left.invariant in
-    let turns = c.turns.ensures in
+    let turns = c.next_turns.ensures in
     let n = c.in_ok-left.field-0 in
     record {
       few = omega (arith, i.few);
@@ -32,7 +32,7 @@ loop-left-preserved g c =
       mark = turns.mark ∙ i.mark;
       live = turns.live ∙ i.live;
       most = turns.most ∙ i.most;
-      given = turns_more g.T.Taker.fault_count g.T.Taker.onward g.T.Taker.stands g.T.Taker.cut c.args.self.now _ c.args.out.now _ _ i.given c.turns.new.self c.turns.new.out n (c.args.n - (c.loop-left.left - n)) (omega (arith, i.few, c.in_ok-left.ensures.few)) c.in_ok-left.ensures.ok;
+      given = turns_more g.T.Taker.fault_count g.T.Taker.onward g.T.Taker.stands g.T.Taker.cut c.args.self.now _ c.args.out.now _ _ i.given c.next_turns.new.self c.next_turns.new.out n (c.args.n - (c.loop-left.left - n)) (omega (arith, i.few, c.in_ok-left.ensures.few)) c.in_ok-left.ensures.ok;
     }
 
 pub returns-in_err-left : goal.returns-in_err-left
@@ -47,7 +47,7 @@ returns-in_err-left g c =
         goes_on = onward_then g.T.Taker.onward _ _ _ i.onward turns.taker.goes_on;
       };
       ok = IfOk-from_err r _ c.from_residual.ensures.0;
-      err = on_err r (more_cut g.T.Taker.fault_count g.T.Taker.onward g.T.Taker.stands g.T.Taker.cut c.args.self.now _ c.args.out.now _ _ i.given c.turns.new.out c.loop-left.left c.args.n (omega (arith, i.few)) turns.err);
+      err = on_err r (more_cut g.T.Taker.fault_count g.T.Taker.onward g.T.Taker.stands g.T.Taker.cut c.args.self.now _ c.args.out.now _ _ i.given c.next_turns.new.out c.loop-left.left c.args.n (omega (arith, i.few)) turns.err);
       mark = turns.mark ∙ i.mark;
       live = turns.live ∙ i.live;
       most = turns.most ∙ i.most;

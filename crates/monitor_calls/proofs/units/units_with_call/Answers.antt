@@ -29,7 +29,7 @@ use Rattle.monitor_calls.proofs.ReachDid.{own_then, reaches_others, slot_reaches
 use Rattle.monitor_calls.proofs.Stopping.{StopsBehind, with_tree, before_few, before_reach, before_some, call_stops, stops_ran, stops_waits, unit_stops}
 use Rattle.monitor_calls.proofs.UnitRan.{call_behind}
 use Rattle.file_tables.specs.Keys.{key_of}
-use Rattle.monitor_calls.proofs.units.units_of.Goals as goal
+use Rattle.monitor_calls.proofs.units.units_with_call.Goals as goal
 
 -- where a fork stands
 abbrev place_of : Fork → Place
@@ -65,49 +65,49 @@ kept_as who f x y n named here k =
     let at = place_of f in
     subst (λ name. Kept (fork_of name at f.body) (fork_of name at y) n) (sym named) (subst (λ b. Kept (fork_of who at b) (fork_of who at y) n) here k)
 
-pub run_units-row-requires-clause-can : goal.run_units-row-requires-clause-can
-run_units-row-requires-clause-can g c = body_has CanUnit _ c.body_at-body.result.now c.requires.there c.body_at-body.ensures.body (λ f e. (c.requires.can f e).1)
+pub units_to_call-row-requires-clause-can : goal.units_to_call-row-requires-clause-can
+units_to_call-row-requires-clause-can g c = body_has CanUnit _ c.body_at-body.result.now c.requires.there c.body_at-body.ensures.body (λ f e. (c.requires.can f e).1)
 
 pub called-requires-clause-there : goal.called-requires-clause-there
 called-requires-clause-there g c =
     let f = some_of _ c.requires.there in
-    subst IsSome (sym (still_in c.args.tree.now c.requires.tree c.args.who.fork.tty c.args.who.slot f.0 c.run_units-row.new.body f.1)) refl
+    subst IsSome (sym (still_in c.args.tree.now c.requires.tree c.args.who.fork.tty c.args.who.slot f.0 c.units_to_call-row.new.body f.1)) refl
 
 pub called-requires-clause-named : goal.called-requires-clause-named
 called-requires-clause-named g c h e =
     let f = some_of _ c.requires.there in
-    let both : Some (with_body c.run_units-row.new.body f.0) ≡ Some h = sym (still_in c.args.tree.now c.requires.tree c.args.who.fork.tty c.args.who.slot f.0 c.run_units-row.new.body f.1) ∙ e in
-    let same : with_body c.run_units-row.new.body f.0 ≡ h = cc both in
+    let both : Some (with_body c.units_to_call-row.new.body f.0) ≡ Some h = sym (still_in c.args.tree.now c.requires.tree c.args.who.fork.tty c.args.who.slot f.0 c.units_to_call-row.new.body f.1) ∙ e in
+    let same : with_body c.units_to_call-row.new.body f.0 ≡ h = cc both in
     ap (λ (k : Fork). k.name) (sym same) ∙ (c.requires.can f.0 f.1).0
 
 pub called-requires-clause-can : goal.called-requires-clause-can
 called-requires-clause-can g c =
     let f = some_of _ c.requires.there in
     let here = c.body_at-body.ensures.body ∙ ap body_in f.1 in
-    let keeps = kept_as c.args.who.fork f.0 _ c.run_units-row.new.body c.run_units-row.result.count (c.requires.can f.0 f.1).0 here (c.run_units-row.ensures.ran (place_of f.0)).keeps in
-    row_within c.args.tree.now c.requires.tree c.args.who.fork.tty c.args.who.slot f.0 f.1 c.run_units-row.new.body c.run_units-row.result.count keeps c.requires.within
+    let keeps = kept_as c.args.who.fork f.0 _ c.units_to_call-row.new.body c.units_to_call-row.result.count (c.requires.can f.0 f.1).0 here (c.units_to_call-row.ensures.ran (place_of f.0)).keeps in
+    row_within c.args.tree.now c.requires.tree c.args.who.fork.tty c.args.who.slot f.0 f.1 c.units_to_call-row.new.body c.units_to_call-row.result.count keeps c.requires.within
 
 pub called-requires-clause-few : goal.called-requires-clause-few
 called-requires-clause-few g c h e =
     let f = some_of _ c.requires.there in
-    let both : Some (with_body c.run_units-row.new.body f.0) ≡ Some h = sym (still_in c.args.tree.now c.requires.tree c.args.who.fork.tty c.args.who.slot f.0 c.run_units-row.new.body f.1) ∙ e in
-    let same : with_body c.run_units-row.new.body f.0 ≡ h = cc both in
+    let both : Some (with_body c.units_to_call-row.new.body f.0) ≡ Some h = sym (still_in c.args.tree.now c.requires.tree c.args.who.fork.tty c.args.who.slot f.0 c.units_to_call-row.new.body f.1) ∙ e in
+    let same : with_body c.units_to_call-row.new.body f.0 ≡ h = cc both in
     let here : c.body_at-body.result.now.units ≡ f.0.body.units = ap (λ b. b.units) (c.body_at-body.ensures.body ∙ ap body_in f.1) in
-    let room = subst (HasRoom c.args.most c.run_units-row.result.count) c.in-Calls.is c.run_units-row.ensures.room in
-    omega (arith, ap (λ (k : Fork). k.body.units) same, (c.run_units-row.ensures.ran (place_of f.0)).keeps.units, here, c.requires.few f.0 f.1, room, c.ranges.most.fits)
+    let room = subst (HasRoom c.args.most c.units_to_call-row.result.count) c.in-Calls.is c.units_to_call-row.ensures.room in
+    omega (arith, ap (λ (k : Fork). k.body.units) same, (c.units_to_call-row.ensures.ran (place_of f.0)).keeps.units, here, c.requires.few f.0 f.1, room, c.ranges.most.fits)
 
 pub called-requires-clause-holds : goal.called-requires-clause-holds
 called-requires-clause-holds g c =
     let f = some_of _ c.requires.there in
-    let ran = c.run_units-row.ensures.ran (place_of f.0) in
-    let keeps = kept_as c.args.who.fork f.0 _ c.run_units-row.new.body c.run_units-row.result.count (c.requires.can f.0 f.1).0 (c.body_at-body.ensures.body ∙ ap body_in f.1) ran.keeps in
-    row_holds c.args.tree.now c.requires.tree c.args.who.fork.tty c.args.who.slot f.0 f.1 c.run_units-row.new.body c.run_units-row.result.count keeps
-    g.P.Pages.means c.args.pages.now c.run_units-row.new.pages c.args.who.fork.tty (makings_of c.run_units-row.result.last) c.requires.holds ran.made
+    let ran = c.units_to_call-row.ensures.ran (place_of f.0) in
+    let keeps = kept_as c.args.who.fork f.0 _ c.units_to_call-row.new.body c.units_to_call-row.result.count (c.requires.can f.0 f.1).0 (c.body_at-body.ensures.body ∙ ap body_in f.1) ran.keeps in
+    row_holds c.args.tree.now c.requires.tree c.args.who.fork.tty c.args.who.slot f.0 f.1 c.units_to_call-row.new.body c.units_to_call-row.result.count keeps
+    g.P.Pages.means c.args.pages.now c.units_to_call-row.new.pages c.args.who.fork.tty (makings_of c.units_to_call-row.result.last) c.requires.holds ran.made
 
 pub called-requires-clause-serial : goal.called-requires-clause-serial
 called-requires-clause-serial g c =
     let f = some_of _ c.requires.there in
-    let made = subst (λ l. Makes g.P.Pages.means c.args.pages.now c.run_units-row.new.pages c.args.who.fork.tty (makings_of l)) c.in-Calls.is (c.run_units-row.ensures.ran (place_of f.0)).made in
+    let made = subst (λ l. Makes g.P.Pages.means c.args.pages.now c.units_to_call-row.new.pages c.args.who.fork.tty (makings_of l)) c.in-Calls.is (c.units_to_call-row.ensures.ran (place_of f.0)).made in
     omega (arith, made.own, c.requires.serial)
 
 pub returns-in-Shows-clause-ran : goal.returns-in-Shows-clause-ran
@@ -116,11 +116,11 @@ returns-in-Shows-clause-ran g c at b there =
     let tree = c.args.tree.now in
     let was : Tables = record { tree = tree; files = c.args.files.now; jobs = c.args.jobs.now.items; typed = c.args.typed.now.items; clock = c.args.clock } in
     let f = fork_of who at b in
-    let body = c.run_units-row.new.body in
+    let body = c.units_to_call-row.new.body in
     let after = fork_of who at body in
-    let row = c.run_units-row.result in
+    let row = c.units_to_call-row.result in
     let here : c.body_at-body.result.now ≡ b = c.body_at-body.ensures.body ∙ ap body_in there in
-    let ran = subst (λ x. Ran g.P.Pages.means c.args.pages.now c.run_units-row.new.pages (fork_of who at x) after row) here (c.run_units-row.ensures.ran at) in
+    let ran = subst (λ x. Ran g.P.Pages.means c.args.pages.now c.units_to_call-row.new.pages (fork_of who at x) after row) here (c.units_to_call-row.ensures.ran at) in
     let is = c.requires.tree in
     let lives = lived tree is who.tty c.args.who.slot f there body row.count ran.keeps in
     let left = left_tree tree who.tty c.args.who.slot f body there in
@@ -129,16 +129,16 @@ returns-in-Shows-clause-ran g c at b there =
       there = λ d drum. subst (λ (x : PlainTree). Lives x.forks after) (sym left) (get_put tree.forks who who after refl);
       told = λ d drum.
           let p = g.P.Pages.means.plain c.args.pages.now d in
-          let q = g.P.Pages.means.plain c.run_units-row.new.pages d in
+          let q = g.P.Pages.means.plain c.units_to_call-row.new.pages d in
           let t = ran.told d drum in
           (t.0, subst (λ x. RanUnits (key_of was.files) (rest_of was) f p row.count (record { rest = rest_of (record was { tree = x }); fork = after; pages = q; shown = c.in-Shows.shown })) (sym left) (subst (IsRow f p row.count after q) c.in-Shows.is t.1 (key_of was.files) (rest_of was)));
       numbers = λ d drum. dir_stays was.files was.files refl;
       unheld = c.requires.job.unheld;
       typing_room = c.requires.job.typing_room;
       keeps = ran.keeps;
-      leaves = subst (λ x. LeavesForks g.P.Pages.means c.args.pages.now c.run_units-row.new.pages tree x f row.count) (sym left)
-          (leaves_one tree is f lives body row.count ran.keeps g.P.Pages.means c.args.pages.now c.run_units-row.new.pages c.requires.holds
-          (subst (λ l. Makes g.P.Pages.means c.args.pages.now c.run_units-row.new.pages who.tty (makings_of l)) c.in-Shows.is ran.made));
+      leaves = subst (λ x. LeavesForks g.P.Pages.means c.args.pages.now c.units_to_call-row.new.pages tree x f row.count) (sym left)
+          (leaves_one tree is f lives body row.count ran.keeps g.P.Pages.means c.args.pages.now c.units_to_call-row.new.pages c.requires.holds
+          (subst (λ l. Makes g.P.Pages.means c.args.pages.now c.units_to_call-row.new.pages who.tty (makings_of l)) c.in-Shows.is ran.made));
       shown = subst FitsLast c.in-Shows.is ran.fits;
     }
 
@@ -148,11 +148,11 @@ returns-in-Ok-clause-ran g c at b there =
     let tree = c.args.tree.now in
     let was : Tables = record { tree = tree; files = c.args.files.now; jobs = c.args.jobs.now.items; typed = c.args.typed.now.items; clock = c.args.clock } in
     let f = fork_of who at b in
-    let body = c.run_units-row.new.body in
+    let body = c.units_to_call-row.new.body in
     let mid = fork_of who at body in
-    let row = c.run_units-row.result in
+    let row = c.units_to_call-row.result in
     let here : c.body_at-body.result.now ≡ b = c.body_at-body.ensures.body ∙ ap body_in there in
-    let ran = subst (λ x. Ran g.P.Pages.means c.args.pages.now c.run_units-row.new.pages (fork_of who at x) mid row) here (c.run_units-row.ensures.ran at) in
+    let ran = subst (λ x. Ran g.P.Pages.means c.args.pages.now c.units_to_call-row.new.pages (fork_of who at x) mid row) here (c.units_to_call-row.ensures.ran at) in
     let is = c.requires.tree in
     let lives = lived tree is who.tty c.args.who.slot f there body row.count ran.keeps in
     let left = left_tree tree who.tty c.args.who.slot f body there in
@@ -162,7 +162,7 @@ returns-in-Ok-clause-ran g c at b there =
       there = λ d drum. called.there;
       told = λ d drum.
           let p = g.P.Pages.means.plain c.args.pages.now d in
-          let q = g.P.Pages.means.plain c.run_units-row.new.pages d in
+          let q = g.P.Pages.means.plain c.units_to_call-row.new.pages d in
           let t = ran.told d drum in
           let made = called.told d t.0 in
           let row_is = subst (IsRow f p row.count mid q) c.in-Calls.is t.1 in
@@ -171,9 +171,9 @@ returns-in-Ok-clause-ran g c at b there =
       unheld = called.unheld;
       typing_room = called.typing_room;
       keeps = more_keeps f mid called.after row.count 1 ran.keeps called.keeps;
-      leaves = leaves_then tree is f lives body row.count ran.keeps g.P.Pages.means c.args.pages.now c.run_units-row.new.pages c.called.new.pages c.called.new.tree 1
-          (subst (λ l. Makes g.P.Pages.means c.args.pages.now c.run_units-row.new.pages who.tty (makings_of l)) c.in-Calls.is ran.made)
-          (subst (λ x. LeavesForks g.P.Pages.means c.run_units-row.new.pages c.called.new.pages x c.called.new.tree mid 1) left called.leaves);
+      leaves = leaves_then tree is f lives body row.count ran.keeps g.P.Pages.means c.args.pages.now c.units_to_call-row.new.pages c.called.new.pages c.called.new.tree 1
+          (subst (λ l. Makes g.P.Pages.means c.args.pages.now c.units_to_call-row.new.pages who.tty (makings_of l)) c.in-Calls.is ran.made)
+          (subst (λ x. LeavesForks g.P.Pages.means c.units_to_call-row.new.pages c.called.new.pages x c.called.new.tree mid 1) left called.leaves);
       shown = called.fits;
     }
 
@@ -183,17 +183,17 @@ returns-in-Err-clause-ran g c at b there =
     let tree = c.args.tree.now in
     let was : Tables = record { tree = tree; files = c.args.files.now; jobs = c.args.jobs.now.items; typed = c.args.typed.now.items; clock = c.args.clock } in
     let f = fork_of who at b in
-    let body = c.run_units-row.new.body in
+    let body = c.units_to_call-row.new.body in
     let mid = fork_of who at body in
-    let row = c.run_units-row.result in
+    let row = c.units_to_call-row.result in
     let here : c.body_at-body.result.now ≡ b = c.body_at-body.ensures.body ∙ ap body_in there in
-    let ran = subst (λ x. Ran g.P.Pages.means c.args.pages.now c.run_units-row.new.pages (fork_of who at x) mid row) here (c.run_units-row.ensures.ran at) in
+    let ran = subst (λ x. Ran g.P.Pages.means c.args.pages.now c.units_to_call-row.new.pages (fork_of who at x) mid row) here (c.units_to_call-row.ensures.ran at) in
     let is = c.requires.tree in
     let lives = lived tree is who.tty c.args.who.slot f there body row.count ran.keeps in
     let left = left_tree tree who.tty c.args.who.slot f body there in
     let means = g.P.Pages.means in
     let old = c.args.pages.now in
-    let now = c.run_units-row.new.pages in
+    let now = c.units_to_call-row.new.pages in
     let made = subst (λ l. Makes means old now who.tty (makings_of l)) c.in-Calls.is ran.made in
     let waits = subst (λ x. CallWaits means now c.called.new.pages (record was { tree = x }) (with_tree was c.called.new.tree c.called.new.files c.called.new.typed.items) who c.in-Err.need) left c.in-Err.ensures.needs in
     let stops = call_stops was is f lives body row.count ran.keeps means old now made c.requires.holds c.called.new.pages c.called.new.tree c.called.new.files c.called.new.typed.items c.in-Err.need (λ d fits. (let t = ran.told d fits in (t.0, (subst (IsRow f (means.plain old d) row.count mid (means.plain now d)) c.in-Calls.is t.1).0))) waits in
@@ -205,17 +205,17 @@ returns-in-Err-clause-waits g c at b there =
     let tree = c.args.tree.now in
     let was : Tables = record { tree = tree; files = c.args.files.now; jobs = c.args.jobs.now.items; typed = c.args.typed.now.items; clock = c.args.clock } in
     let f = fork_of who at b in
-    let body = c.run_units-row.new.body in
+    let body = c.units_to_call-row.new.body in
     let mid = fork_of who at body in
-    let row = c.run_units-row.result in
+    let row = c.units_to_call-row.result in
     let here : c.body_at-body.result.now ≡ b = c.body_at-body.ensures.body ∙ ap body_in there in
-    let ran = subst (λ x. Ran g.P.Pages.means c.args.pages.now c.run_units-row.new.pages (fork_of who at x) mid row) here (c.run_units-row.ensures.ran at) in
+    let ran = subst (λ x. Ran g.P.Pages.means c.args.pages.now c.units_to_call-row.new.pages (fork_of who at x) mid row) here (c.units_to_call-row.ensures.ran at) in
     let is = c.requires.tree in
     let lives = lived tree is who.tty c.args.who.slot f there body row.count ran.keeps in
     let left = left_tree tree who.tty c.args.who.slot f body there in
     let means = g.P.Pages.means in
     let old = c.args.pages.now in
-    let now = c.run_units-row.new.pages in
+    let now = c.units_to_call-row.new.pages in
     let made = subst (λ l. Makes means old now who.tty (makings_of l)) c.in-Calls.is ran.made in
     let waits = subst (λ x. CallWaits means now c.called.new.pages (record was { tree = x }) (with_tree was c.called.new.tree c.called.new.files c.called.new.typed.items) who c.in-Err.need) left c.in-Err.ensures.needs in
     let stops = call_stops was is f lives body row.count ran.keeps means old now made c.requires.holds c.called.new.pages c.called.new.tree c.called.new.files c.called.new.typed.items c.in-Err.need (λ d fits. (let t = ran.told d fits in (t.0, (subst (IsRow f (means.plain old d) row.count mid (means.plain now d)) c.in-Calls.is t.1).0))) waits in
@@ -227,17 +227,17 @@ returns-in-Needs-clause-ran g c at b there =
     let tree = c.args.tree.now in
     let was : Tables = record { tree = tree; files = c.args.files.now; jobs = c.args.jobs.now.items; typed = c.args.typed.now.items; clock = c.args.clock } in
     let f = fork_of who at b in
-    let body = c.run_units-row.new.body in
+    let body = c.units_to_call-row.new.body in
     let mid = fork_of who at body in
-    let row = c.run_units-row.result in
+    let row = c.units_to_call-row.result in
     let here : c.body_at-body.result.now ≡ b = c.body_at-body.ensures.body ∙ ap body_in there in
-    let ran = subst (λ x. Ran g.P.Pages.means c.args.pages.now c.run_units-row.new.pages (fork_of who at x) mid row) here (c.run_units-row.ensures.ran at) in
+    let ran = subst (λ x. Ran g.P.Pages.means c.args.pages.now c.units_to_call-row.new.pages (fork_of who at x) mid row) here (c.units_to_call-row.ensures.ran at) in
     let is = c.requires.tree in
     let lives = lived tree is who.tty c.args.who.slot f there body row.count ran.keeps in
     let left = left_tree tree who.tty c.args.who.slot f body there in
     let means = g.P.Pages.means in
     let old = c.args.pages.now in
-    let now = c.run_units-row.new.pages in
+    let now = c.units_to_call-row.new.pages in
     let n = c.in-Needs.need in
     let made = subst (λ l. Makes means old now who.tty (makings_of l)) c.in-Needs.is ran.made in
     let stops = subst (λ x. StopsBehind means old now was x was.files was.typed f mid row.count n) (sym left)
@@ -250,17 +250,17 @@ returns-in-Needs-clause-waits g c at b there =
     let tree = c.args.tree.now in
     let was : Tables = record { tree = tree; files = c.args.files.now; jobs = c.args.jobs.now.items; typed = c.args.typed.now.items; clock = c.args.clock } in
     let f = fork_of who at b in
-    let body = c.run_units-row.new.body in
+    let body = c.units_to_call-row.new.body in
     let mid = fork_of who at body in
-    let row = c.run_units-row.result in
+    let row = c.units_to_call-row.result in
     let here : c.body_at-body.result.now ≡ b = c.body_at-body.ensures.body ∙ ap body_in there in
-    let ran = subst (λ x. Ran g.P.Pages.means c.args.pages.now c.run_units-row.new.pages (fork_of who at x) mid row) here (c.run_units-row.ensures.ran at) in
+    let ran = subst (λ x. Ran g.P.Pages.means c.args.pages.now c.units_to_call-row.new.pages (fork_of who at x) mid row) here (c.units_to_call-row.ensures.ran at) in
     let is = c.requires.tree in
     let lives = lived tree is who.tty c.args.who.slot f there body row.count ran.keeps in
     let left = left_tree tree who.tty c.args.who.slot f body there in
     let means = g.P.Pages.means in
     let old = c.args.pages.now in
-    let now = c.run_units-row.new.pages in
+    let now = c.units_to_call-row.new.pages in
     let n = c.in-Needs.need in
     let made = subst (λ l. Makes means old now who.tty (makings_of l)) c.in-Needs.is ran.made in
     let stops = subst (λ x. StopsBehind means old now was x was.files was.typed f mid row.count n) (sym left)
@@ -271,70 +271,70 @@ pub returns-in-Err-clause-core : goal.returns-in-Err-clause-core
 returns-in-Err-clause-core g c flat = (let no = c.in-Err.ensures.core flat in absurd (cc no))
 
 pub returns-in-Err-clause-some : goal.returns-in-Err-clause-some
-returns-in-Err-clause-some g c = before_some c.run_units-row.result.count c.in-Err.need c.reach_of-reach.result c.done_before.result c.done_before.ensures
+returns-in-Err-clause-some g c = before_some c.units_to_call-row.result.count c.in-Err.need c.reach_of-reach.result c.done_before.result c.done_before.ensures
 
 pub returns-in-Err-clause-few : goal.returns-in-Err-clause-few
 returns-in-Err-clause-few g c =
-    let room = subst (HasRoom c.args.most c.run_units-row.result.count) c.in-Calls.is c.run_units-row.ensures.room in
-    before_few c.run_units-row.result.count c.args.most c.in-Err.need c.reach_of-reach.result c.done_before.result (omega (arith, room)) c.done_before.ensures
+    let room = subst (HasRoom c.args.most c.units_to_call-row.result.count) c.in-Calls.is c.units_to_call-row.ensures.room in
+    before_few c.units_to_call-row.result.count c.args.most c.in-Err.need c.reach_of-reach.result c.done_before.result (omega (arith, room)) c.done_before.ensures
 
 pub returns-in-Needs-clause-core : goal.returns-in-Needs-clause-core
-returns-in-Needs-clause-core g c flat = (let f = some_of _ c.requires.there in absurd (subst IsMet c.in-Needs.is ((c.run_units-row.ensures.ran (place_of f.0)).core flat)))
+returns-in-Needs-clause-core g c flat = (let f = some_of _ c.requires.there in absurd (subst IsMet c.in-Needs.is ((c.units_to_call-row.ensures.ran (place_of f.0)).core flat)))
 
 pub returns-in-Needs-clause-some : goal.returns-in-Needs-clause-some
-returns-in-Needs-clause-some g c = before_some c.run_units-row.result.count c.in-Needs.need Own c.done_before-in-Needs.result c.done_before-in-Needs.ensures
+returns-in-Needs-clause-some g c = before_some c.units_to_call-row.result.count c.in-Needs.need Own c.done_before-in-Needs.result c.done_before-in-Needs.ensures
 
 pub returns-in-Needs-clause-few : goal.returns-in-Needs-clause-few
 returns-in-Needs-clause-few g c =
-    let room = subst (HasRoom c.args.most c.run_units-row.result.count) c.in-Needs.is c.run_units-row.ensures.room in
-    before_few c.run_units-row.result.count c.args.most c.in-Needs.need Own c.done_before-in-Needs.result (omega (arith, room)) c.done_before-in-Needs.ensures
+    let room = subst (HasRoom c.args.most c.units_to_call-row.result.count) c.in-Needs.is c.units_to_call-row.ensures.room in
+    before_few c.units_to_call-row.result.count c.args.most c.in-Needs.need Own c.done_before-in-Needs.result (omega (arith, room)) c.done_before-in-Needs.ensures
 
 -- how far the units have reached
 pub returns-in-Shows-clause-reach : goal.returns-in-Shows-clause-reach
 returns-in-Shows-clause-reach g c =
     let f = some_of _ c.requires.there in
-    row_reaches c.args.tree.now c.requires.tree c.args.who.fork c.args.who.slot f.0 f.1 (c.requires.can f.0 f.1).0 c.run_units-row.new.body
+    row_reaches c.args.tree.now c.requires.tree c.args.who.fork c.args.who.slot f.0 f.1 (c.requires.can f.0 f.1).0 c.units_to_call-row.new.body
 
 pub returns-in-Shows-clause-others : goal.returns-in-Shows-clause-others
 returns-in-Shows-clause-others g c =
     let f = some_of _ c.requires.there in
-    reaches_others Own c.args.who.fork c.args.tree.now _ c.requires.tree.slotted.own (row_reaches c.args.tree.now c.requires.tree c.args.who.fork c.args.who.slot f.0 f.1 (c.requires.can f.0 f.1).0 c.run_units-row.new.body)
+    reaches_others Own c.args.who.fork c.args.tree.now _ c.requires.tree.slotted.own (row_reaches c.args.tree.now c.requires.tree c.args.who.fork c.args.who.slot f.0 f.1 (c.requires.can f.0 f.1).0 c.units_to_call-row.new.body)
 
 pub returns-in-Needs-clause-reach : goal.returns-in-Needs-clause-reach
 returns-in-Needs-clause-reach g c =
     let f = some_of _ c.requires.there in
     let tree = c.args.tree.now in
     let who = c.args.who.fork in
-    before_reach (λ r. Reaches r who tree (with_body_at tree who.tty c.args.who.slot c.run_units-row.new.body)) c.run_units-row.result.count c.in-Needs.need Own c.done_before-in-Needs.result
-    (row_reaches tree c.requires.tree who c.args.who.slot f.0 f.1 (c.requires.can f.0 f.1).0 c.run_units-row.new.body) c.done_before-in-Needs.ensures
+    before_reach (λ r. Reaches r who tree (with_body_at tree who.tty c.args.who.slot c.units_to_call-row.new.body)) c.units_to_call-row.result.count c.in-Needs.need Own c.done_before-in-Needs.result
+    (row_reaches tree c.requires.tree who c.args.who.slot f.0 f.1 (c.requires.can f.0 f.1).0 c.units_to_call-row.new.body) c.done_before-in-Needs.ensures
 
 pub returns-in-Needs-clause-others : goal.returns-in-Needs-clause-others
 returns-in-Needs-clause-others g c =
     let f = some_of _ c.requires.there in
-    reaches_others Own c.args.who.fork c.args.tree.now _ c.requires.tree.slotted.own (row_reaches c.args.tree.now c.requires.tree c.args.who.fork c.args.who.slot f.0 f.1 (c.requires.can f.0 f.1).0 c.run_units-row.new.body)
+    reaches_others Own c.args.who.fork c.args.tree.now _ c.requires.tree.slotted.own (row_reaches c.args.tree.now c.requires.tree c.args.who.fork c.args.who.slot f.0 f.1 (c.requires.can f.0 f.1).0 c.units_to_call-row.new.body)
 
 pub returns-in-Ok-clause-reach : goal.returns-in-Ok-clause-reach
 returns-in-Ok-clause-reach g c =
     let f = some_of _ c.requires.there in
-    call_reaches c.args.tree.now c.requires.tree c.args.who.fork c.args.who.slot f.0 f.1 (c.requires.can f.0 f.1).0 c.run_units-row.new.body c.reach_of-reach.result c.called.new.tree
-    (subst (λ r. Reaches r c.args.who.fork (with_body_at c.args.tree.now c.args.who.fork.tty c.args.who.slot c.run_units-row.new.body) c.called.new.tree) (sym c.reach_of-reach.ensures) c.called.ensures.reach)
+    call_reaches c.args.tree.now c.requires.tree c.args.who.fork c.args.who.slot f.0 f.1 (c.requires.can f.0 f.1).0 c.units_to_call-row.new.body c.reach_of-reach.result c.called.new.tree
+    (subst (λ r. Reaches r c.args.who.fork (with_body_at c.args.tree.now c.args.who.fork.tty c.args.who.slot c.units_to_call-row.new.body) c.called.new.tree) (sym c.reach_of-reach.ensures) c.called.ensures.reach)
 
 pub returns-in-Ok-clause-others : goal.returns-in-Ok-clause-others
 returns-in-Ok-clause-others g c =
     let f = some_of _ c.requires.there in
     reaches_others (reach_of c.in-Calls.number) c.args.who.fork c.args.tree.now c.called.new.tree c.requires.tree.slotted.own
-    (call_reaches c.args.tree.now c.requires.tree c.args.who.fork c.args.who.slot f.0 f.1 (c.requires.can f.0 f.1).0 c.run_units-row.new.body (reach_of c.in-Calls.number) c.called.new.tree c.called.ensures.reach)
+    (call_reaches c.args.tree.now c.requires.tree c.args.who.fork c.args.who.slot f.0 f.1 (c.requires.can f.0 f.1).0 c.units_to_call-row.new.body (reach_of c.in-Calls.number) c.called.new.tree c.called.ensures.reach)
 
 pub returns-in-Err-clause-reach : goal.returns-in-Err-clause-reach
 returns-in-Err-clause-reach g c =
     let f = some_of _ c.requires.there in
     let who = c.args.who.fork in
-    before_reach (λ r. Reaches r who c.args.tree.now c.called.new.tree) c.run_units-row.result.count c.in-Err.need c.reach_of-reach.result c.done_before.result
-    (call_reaches c.args.tree.now c.requires.tree who c.args.who.slot f.0 f.1 (c.requires.can f.0 f.1).0 c.run_units-row.new.body c.reach_of-reach.result c.called.new.tree
-    (subst (λ r. Reaches r who (with_body_at c.args.tree.now who.tty c.args.who.slot c.run_units-row.new.body) c.called.new.tree) (sym c.reach_of-reach.ensures) c.called.ensures.reach)) c.done_before.ensures
+    before_reach (λ r. Reaches r who c.args.tree.now c.called.new.tree) c.units_to_call-row.result.count c.in-Err.need c.reach_of-reach.result c.done_before.result
+    (call_reaches c.args.tree.now c.requires.tree who c.args.who.slot f.0 f.1 (c.requires.can f.0 f.1).0 c.units_to_call-row.new.body c.reach_of-reach.result c.called.new.tree
+    (subst (λ r. Reaches r who (with_body_at c.args.tree.now who.tty c.args.who.slot c.units_to_call-row.new.body) c.called.new.tree) (sym c.reach_of-reach.ensures) c.called.ensures.reach)) c.done_before.ensures
 
 pub returns-in-Err-clause-others : goal.returns-in-Err-clause-others
 returns-in-Err-clause-others g c =
     let f = some_of _ c.requires.there in
     reaches_others (reach_of c.in-Calls.number) c.args.who.fork c.args.tree.now c.called.new.tree c.requires.tree.slotted.own
-    (call_reaches c.args.tree.now c.requires.tree c.args.who.fork c.args.who.slot f.0 f.1 (c.requires.can f.0 f.1).0 c.run_units-row.new.body (reach_of c.in-Calls.number) c.called.new.tree c.called.ensures.reach)
+    (call_reaches c.args.tree.now c.requires.tree c.args.who.fork c.args.who.slot f.0 f.1 (c.requires.can f.0 f.1).0 c.units_to_call-row.new.body (reach_of c.in-Calls.number) c.called.new.tree c.called.ensures.reach)
