@@ -6,8 +6,8 @@ use Rattle.plain_model.specs.Inspections.{is_interrupted}
 use Rattle.plain_pages.specs.PlainPages.{NumberedPages}
 use Rattle.ka10_spots.specs.Once.{After, in_a_row}
 use Rattle.monitor_calls.specs.ForkUnit.{IsOne, IsRow, Leaving, RanUnits, RanUpTo, Rest, behind_unit, left_so, put_in, ran_on, units_over}
-use Rattle.monitor_calls.specs.declared.unit.Last.{Last}
-use Rattle.monitor_calls.specs.declared.unit.Last.TheVariants.{Shows, Calls, Needs}
+use Rattle.monitor_calls.specs.declared.row.Last.{Last}
+use Rattle.monitor_calls.specs.declared.row.Last.TheVariants.{Shows, Calls, Needs}
 use Rattle.monitor_calls.proofs.UnitRan.{one_behind, put_twice}
 
 module _ (f : Fork) (p : NumberedPages) (n : ℕ) (a : After nat_cmp) (h : Fork) (r : NumberedPages) (row : in_a_row f.name n p f.body.regs ≡ Some a) (name : h.name ≡ f.name)

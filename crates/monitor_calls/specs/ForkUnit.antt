@@ -51,9 +51,9 @@ use Rattle.step_shown.specs.Shown.{FitsShown, nothing, shown_of, stands}
 use Rattle.monitor_calls.specs.Makings.{Makes, most_makings}
 use Rattle.step_shown.specs.declared.shown.Shown.{Shown}
 use Rattle.step_shown.specs.declared.shown.Stop.TheVariants.{GoesOn, Forced}
-use Rattle.monitor_calls.specs.declared.unit.Row.{Row}
-use Rattle.monitor_calls.specs.declared.unit.Last.{Last}
-use Rattle.monitor_calls.specs.declared.unit.Last.TheVariants.{Shows, Calls, Needs}
+use Rattle.monitor_calls.specs.declared.row.Row.{Row}
+use Rattle.monitor_calls.specs.declared.row.Last.{Last}
+use Rattle.monitor_calls.specs.declared.row.Last.TheVariants.{Shows, Calls, Needs}
 use Rattle.monitor_calls.specs.declared.units.Units.{Units}
 
 -- where a fork stands among those of its job

@@ -32,8 +32,8 @@ ghost use Rattle.monitor_calls.specs.Makings.{most_makings};
 ghost use Rattle.monitor_calls.specs.ForkUnit.{CallWaits, Called, HasJob, Place as APlace, Turns, answered as answered_of, fork_of, line_behind, out_in, tables_in};
 
 use crate::job::Job;
+use crate::row::post_channel;
 use crate::typing::Typing;
-use crate::unit::post_channel;
 use byte_io::is_byte_call;
 use call_turns::{Answer, behind};
 use clock_calls::is_clock_call;

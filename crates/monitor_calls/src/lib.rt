@@ -5,11 +5,11 @@
 
 mod calls;
 mod job;
+mod row;
 mod typing;
-mod unit;
 mod units;
 
 pub use job::{Job, empty_jobs, seen, seen_stop};
+pub use row::channel_of;
 pub use typing::{Typing, empty_typings};
-pub use unit::channel_of;
 pub use units::{Units, units_with_call};

@@ -14,8 +14,8 @@ ghost use Rattle.step_shown.specs.Shown.{nothing};
 
 use crate::calls::{called, reach_of};
 use crate::job::Job;
+use crate::row::{Last, units_to_call};
 use crate::typing::Typing;
-use crate::unit::{Last, units_to_call};
 use file_tables::FileTables;
 use fork_tree::Tree;
 use page_contracts::{Need, Pages};

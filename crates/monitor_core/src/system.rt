@@ -35,8 +35,9 @@ pub struct System<P: Pages> {
 mod at_file;
 mod at_job;
 mod boot;
+mod characters;
 mod commands;
+mod events;
 mod login;
 mod parts;
-mod steps;
-mod typed;
+mod running;

@@ -11,7 +11,7 @@ use Rattle.monitor_calls.proofs.Keeping.{ended_keeps, more_keeps, row_keeps}
 use Rattle.monitor_calls.proofs.UnitRan.{post_behind, row_ran}
 use Rattle.monitor_calls.proofs.Silent.{instruction_alone}
 use Rattle.monitor_calls.proofs.UnitRows.{first_row, more_row, one_as}
-use Rattle.monitor_calls.proofs.unit.units_to_call.Goals as goal
+use Rattle.monitor_calls.proofs.row.units_to_call.Goals as goal
 
 -- a fork that isn't interrupted, by the test
 alone_of : {b t : Bool} → t ≡ b → t ≡ false → b ≡ false

@@ -7,7 +7,7 @@ use Rattle.monitor_calls.specs.Limits.{unit_frames}
 use Rattle.monitor_calls.specs.ForkUnit.{Kept, behind, fork_of, left_so}
 use Rattle.monitor_calls.proofs.Keeping.{ended_keeps, posted_keeps, none_keeps}
 use Rattle.monitor_calls.proofs.UnitRan.{done_behind, trap_behind}
-use Rattle.monitor_calls.proofs.unit.one_unit.Goals as goal
+use Rattle.monitor_calls.proofs.row.one_unit.Goals as goal
 
 pub returns-in-Done : goal.returns-in-Done
 returns-in-Done g c at =

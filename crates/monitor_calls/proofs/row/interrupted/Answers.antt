@@ -13,7 +13,7 @@ use Rattle.step_shown.specs.Shown.{nothing, stands}
 use Rattle.monitor_calls.specs.ForkUnit.{Kept, RanOne, behind_decided, behind_instruction, behind_interrupted, fork_of, left_so}
 use Rattle.monitor_calls.proofs.Keeping.{delivered_keeps, forced_keeps}
 use Rattle.monitor_calls.proofs.UnitRows.{one_as}
-use Rattle.monitor_calls.proofs.unit.interrupted.Goals as goal
+use Rattle.monitor_calls.proofs.row.interrupted.Goals as goal
 
 -- a reading traps with one of the channels
 by_reference : (why : Stop) (channel : ℕ) → why ≡ stop.Trap channel → IsByReference why → channel < 36
