@@ -1,6 +1,7 @@
 """Whether the comments of the examples fit their words: a comment '; ADDRESS  INSTRUCTION' or '; ADDRESS  WORD' stands for the word
 that the next POKE or WORDS puts at that address. Each example opens with a comment, and one that starts a program has its instructions in comments.
-Whether the index of docs/MACHINE.md has their numbers. Status 1: something does not fit, and each was printed.
+Whether the index of docs/MACHINE.md has their numbers, and the instruction table their names at their opcodes. Status 1: something
+does not fit, and each was printed.
 """
 import glob
 import re
@@ -76,6 +77,16 @@ def compare_index(document):
             fail(f"the index of {document} lacks {name} {opcode:o}")
 
 
+def compare_rows(table):
+    """The comments of the instruction table: behind each line of rows its first opcode, and the names of its instructions."""
+    with open(table, encoding="utf-8") as file:
+        comments = re.findall(r"; +// ([0-7]{3})((?: [A-Z]+)*)$", file.read(), re.M)
+    found = {name: int(first, 8) + n for first, named in comments for n, name in enumerate(named.split())}
+    for name in sorted(found.keys() | names.OPCODES.keys()):
+        if found.get(name) != names.OPCODES.get(name):
+            fail(f"{table} has {name} at {found.get(name)}, and the assembler at {names.OPCODES.get(name)}")
+
+
 def main():
     scripts = sorted(glob.glob("examples/**/*.script", recursive=True))
     comments = 0
@@ -87,6 +98,7 @@ def main():
         comments += compare(path, lines)
         calls_are_named(path, lines)
     compare_index("docs/MACHINE.md")
+    compare_rows("crates/ka10_table/src/rows.rt")
     if failures:
         sys.exit(1)
     print(f"mnemonics.py: {comments} comments of {len(scripts)} examples are those of their words")
