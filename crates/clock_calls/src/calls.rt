@@ -10,8 +10,8 @@ ghost use Rattle.job_forks.specs.Asking.{asked};
 ghost use Rattle.clock_calls.specs.Turning.{IsChange, asked_at};
 
 use call_turns::{returning, with_ac};
-use job_forks::own_named;
 use fork_tree::Tree;
+use job_forks::own_named;
 use machine_names::ForkName;
 use plain_model::Body;
 use plain_model::call::{End, SleepChange, UNITS_A_TICK};

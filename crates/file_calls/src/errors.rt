@@ -7,8 +7,8 @@ ghost use Rattle.job_forks.specs.Asking.{asked};
 ghost use Rattle.file_calls.specs.Answering.{Answers};
 
 use call_turns::{Answer, answer_of, returning, with_ac};
-use job_forks::own_named;
 use fork_tree::Tree;
+use job_forks::own_named;
 use machine_names::ForkName;
 use plain_units::Regs;
 use word36::Word;

@@ -10,9 +10,9 @@ ghost use Rattle.job_forks.specs.Asking.{asked};
 ghost use Rattle.job_forks.specs.Limits.{AreWithin, IsBody};
 ghost use Rattle.fork_calls.specs.Steps.{FitsStep, MakesOrFails, whole};
 
-use crate::words::address_named;
 use crate::standing::{place_word, status_word};
 use crate::step::FirstStep;
+use crate::words::address_named;
 use call_turns::{returning, with_ac};
 use fork_tree::{NoFork, Tree};
 use job_forks::{inferior_named, own_named};

@@ -12,8 +12,8 @@ ghost use Rattle.fork_tree.specs.Inferiors.{HasNoInferior};
 ghost use Rattle.job_forks.specs.Holding.{ComeFrom, Holds, MakesPages, TopsStay, parts};
 ghost use Rattle.job_commands.specs.Leaving.{IsTop, LogoutLeaves};
 
-use job_forks::{ask_maps, kill_bare, kill_below};
 use fork_tree::Tree;
+use job_forks::{ask_maps, kill_bare, kill_below};
 use machine_names::ForkName;
 use page_contracts::Pages;
 

@@ -20,8 +20,8 @@ use crate::bodies::{switched_off, switched_on, with_channels, with_table, withou
 use crate::levels::least_level;
 use crate::step::{FirstStep, LevelToEnd};
 use call_turns::returning;
-use job_forks::own_named;
 use fork_tree::{Tree, post_all};
+use job_forks::own_named;
 use machine_names::ForkName;
 use plain_model::call::{BAD_CODE, End, InterruptChange};
 use plain_model::interrupt::CHANNELS;

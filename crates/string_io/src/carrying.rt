@@ -20,8 +20,8 @@ ghost use Rattle.string_io.specs.Depositing.{CanCarry, pages_planned};
 ghost use Rattle.string_io.specs.Planning.{CanEnd, OpensEnd};
 
 use crate::plan::Plan;
-use file_bytes::change;
 use call_turns::{Answer, answer_of};
+use file_bytes::change;
 use file_tables::FileTables;
 use ka10_unit::store;
 use machine_names::{Kind, Place, Tty};
