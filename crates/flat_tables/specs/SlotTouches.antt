@@ -5,7 +5,7 @@ use Rattle.std.specs.FinMap as map
 use Rattle.machine_names.specs.declared.names.PageName.{PageName}
 use Rattle.page_homes.specs.declared.homes.Home.{Home}
 use Rattle.machine_names.specs.declared.names.Kind.{Kind}
-use Rattle.machine_names.specs.declared.names.Kind.TheVariants.{Read, Write, Execute}
+use Rattle.machine_names.specs.declared.names.Kind.TheVariants.{Write}
 use Rattle.machine_names.specs.declared.names.Place.{Place}
 use Rattle.machine_names.specs.declared.names.Place.TheVariants.{Fork, File}
 use Rattle.machine_names.specs.declared.names.Slot.{Slot}

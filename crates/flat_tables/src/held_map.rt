@@ -1,6 +1,6 @@
 // The maps of forks as they stand in memory.
 ghost use Rattle.std.specs.Prelude.{◌≡◌, ◌+◌, ◌<◌, ◌≤◌, None, Some, IfOk, length, replicate};
-ghost use Rattle.flat_tables.specs.HeldMaps.{AreHeld, no_page, free_map, map_at, fork_at, first_map, held_entry, with_entry, index_of, living_of, followers};
+ghost use Rattle.flat_tables.specs.HeldMaps.{AreHeld, no_page, free_map, map_at, fork_at, first_map, held_entry, with_entry, living_of, followers};
 
 use crate::held_entry::{EntryAt, HeldEntry, Link};
 use fork_maps::{FULL_ACCESS, ForkMap, MOST_MAPS};

@@ -20,7 +20,7 @@ use Rattle.pager_walk.specs.declared.paged_entry.Looked.TheVariants.{Is, Missing
 use Rattle.pager_walk.specs.declared.paged_entry.PagedEntry.TheVariants.{Empty, Page, Follows}
 use Rattle.fork_maps.specs.ChainWalks.{allows_along, copy_for}
 use Rattle.pager_walk.specs.PagedMaps.{look_at, map_away, name_at}
-use Rattle.pager_walk.specs.Walks.{Way, walk_at}
+use Rattle.pager_walk.specs.Walks.{walk_at}
 use Rattle.flat_tables.specs.SlotTables.{share_of}
 use Rattle.flat_tables.specs.SlotTouches.{home_named}
 use Rattle.paged_tables.specs.NameCounts.{count_of, share_at}

@@ -111,7 +111,7 @@ impl PagedTables {
         self.files.page(file, page)
     }
 
-    // The share of the page of a home, where it has one.
+    /// The share of the page of a home. None exactly where it has none.
     pub fn share_of(&self, home: Home) -> Option<Share>
         ensures { result ≡ share_at self.now.shared.items home.0 }
     {
@@ -184,7 +184,7 @@ impl PagedTables {
     }
 
     // The page of a share is named once less.
-    pub fn leave_share(&mut self, share: Option<Share>)
+    pub(crate) fn leave_share(&mut self, share: Option<Share>)
         ensures { beside_of self.new ≡ with_shares (beside_of self.old) (left_by_one self.old.tables.shares share) }
     {
         let Some(share) = share else {

@@ -1,4 +1,4 @@
-use Rattle.std.proofs.Common.{◌∙◌, Some, sym, ap, is_some, subst, List, refl}
+use Rattle.std.proofs.Common.{◌∙◌, sym, ap, is_some, subst, List, refl}
 use Rattle.machine_names.specs.Orders.{file_page}
 use Rattle.page_contracts.specs.Stores.{HomePlace}
 use Rattle.flat_tables.specs.SlotTables.{AreTables}

@@ -1,5 +1,4 @@
 use Rattle.pager_walk.specs.PagedMaps.{tables_of, with_name}
-use Rattle.paged_tables.specs.declared.paged_tables.PagedTables.{PagedTables}
 use Rattle.paged_tables.specs.PagedTables.{beside_of}
 use Rattle.paged_tables.proofs.paged_tables.PagedTables.rename.Goals as goal
 
