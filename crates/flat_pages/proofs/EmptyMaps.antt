@@ -18,7 +18,7 @@ use Rattle.plain_pages.specs.Room.{uses}
 use Rattle.plain_pages.specs.References.{with_entry as entry_put}
 use Rattle.page_contracts.specs.Pages.{StaysInCore}
 use Rattle.machine_names.specs.Orders.{same_fork}
-use Rattle.page_contracts.specs.Stores.{StoreMeaning, FitsHomes, traffic}
+use Rattle.page_contracts.specs.Stores.{HomePlace, StoreMeaning, FitsHomes, traffic}
 use Rattle.page_contracts.proofs.Losing.{keeps_frames, loses_nothing, loses_on, none_on}
 use Rattle.plain_pages.specs.WholePages.{AreWhole}
 use Rattle.plain_pages.proofs.Kept.{entry_kept, entry_maps, uses_entry, unnamed_gone}
@@ -28,31 +28,32 @@ use Rattle.flat_tables.specs.declared.held_entry.HeldEntry.TheVariants.{Empty}
 use Rattle.flat_tables.specs.declared.held_map.HeldMap.{HeldMap}
 use Rattle.flat_tables.specs.declared.map_tables.MapTables.{MapTables}
 use Rattle.flat_tables.specs.HeldMaps.{AreHeld, fork_at, held_entry, map_at, with_entry, entry_of}
-use Rattle.flat_tables.specs.SlotTables.{Tables, plain_of, AreTables}
+use Rattle.flat_tables.specs.SlotTables.{plain_of, AreTables}
 use Rattle.flat_pages.specs.SlotMeaning.{AreTold}
-use Rattle.flat_tables.specs.SlotSteps.{HomeStays, NamesHome, SetsEntry}
+use Rattle.flat_tables.specs.SlotSteps.{NamesHome, SetsEntry, Stays}
 use Rattle.flat_tables.specs.TableSteps.{tables_of}
-use Rattle.flat_pages.specs.Emptying.{AreFewer, EmptiesMap, MapNames}
+use Rattle.flat_pages.specs.Emptying.{AreFewer, EmptiesMap, MapNames, NamesFewer}
 use Rattle.flat_tables.proofs.ForkMaps.{fork_within}
 use Rattle.flat_tables.proofs.HeldEntries.{entry_same, entry_other, fork_set, maps_length}
 use Rattle.flat_tables.proofs.LivingMaps.{inserted, entry_held}
 use Rattle.flat_pages.proofs.EntrySetting.{same_core}
 
 -- the pages as they are
-pub fewer_itself : (p : NumberedPages) (f : ForkName) → AreWhole p → AreFewer p p f
-fewer_itself p f w = record { objects = λ n. by n (nat_lt 0 (uses p n)) refl; named = λ n h. h; others = λ g ne. refl; files = refl; page_serials = refl; console_serial = refl; limit = refl }
+pub names_itself : (p : NumberedPages) → AreWhole p → NamesFewer p p
+names_itself p w = record { objects = λ n. by n (nat_lt 0 (uses p n)) refl; named = λ n h. h; page_serials = refl; console_serial = refl; limit = refl }
   where
     by : (n : PageName) (b : Bool) → nat_lt 0 (uses p n) ≡ b → fin.get p.objects n ≡ cond b (fin.get p.objects n) None
     by n true is = refl
     by n false is = unnamed_gone p w n is
 
+pub fewer_itself : (p : NumberedPages) (f : ForkName) → AreWhole p → AreFewer p p f
+fewer_itself p f w = record { pages = names_itself p w; others = λ g ne. refl; files = refl }
+
 -- fewer of fewer
-pub fewer_on : (p q r : NumberedPages) (f : ForkName) → AreFewer p q f → AreFewer q r f → AreFewer p r f
-fewer_on p q r f k l = record {
+pub names_on : (p q r : NumberedPages) → NamesFewer p q → NamesFewer q r → NamesFewer p r
+names_on p q r k l = record {
   objects = λ n. l.objects n ∙ by n (nat_lt 0 (uses r n)) refl;
   named = λ n h. k.named n (l.named n h);
-  others = λ g ne. l.others g ne ∙ k.others g ne;
-  files = l.files ∙ k.files;
   page_serials = l.page_serials ∙ k.page_serials;
   console_serial = l.console_serial ∙ k.console_serial;
   limit = l.limit ∙ k.limit;
@@ -62,6 +63,9 @@ fewer_on p q r f k l = record {
     by n true is = k.objects n ∙ ap (λ b. cond b (fin.get p.objects n) None) (l.named n is)
     by n false is = refl
 
+pub fewer_on : (p q r : NumberedPages) (f : ForkName) → AreFewer p q f → AreFewer q r f → AreFewer p r f
+fewer_on p q r f k l = record { pages = names_on p q r k.pages l.pages; others = λ g ne. l.others g ne ∙ k.others g ne; files = l.files ∙ k.files }
+
 pub less_used : (j k : ℕ) → j ≤ k → nat_lt 0 j ≡ true → nat_lt 0 k ≡ true
 less_used j k le h = grind (arith, nat_tests)
 
@@ -70,13 +74,15 @@ pub fewer_emptied : (p : NumberedPages) → AreWhole p → (s : Slot) (x : MapEn
 fewer_emptied p w s x there =
     let k = entry_kept p w s x entry.Empty there in
     record {
-      objects = k.objects;
-      named = λ n h. less_used (uses (entry_put p s entry.Empty) n) (uses p n) (omega (arith, uses_entry p w s x entry.Empty there n)) h;
+      pages = record {
+        objects = k.objects;
+        named = λ n h. less_used (uses (entry_put p s entry.Empty) n) (uses p n) (omega (arith, uses_entry p w s x entry.Empty there n)) h;
+        page_serials = k.page_serials;
+        console_serial = k.console_serial;
+        limit = k.limit;
+      };
       others = λ g ne. ap (λ (m : Maps). fin.get m g) (entry_maps p w s x entry.Empty there) ∙ by g ne (fin.get p.maps s.fork);
       files = k.files;
-      page_serials = k.page_serials;
-      console_serial = k.console_serial;
-      limit = k.limit;
     }
   where
     by : (g : ForkName) → same_fork g s.fork ≡ false → (o : Option Map) → fin.get (option_map_or (λ m. fin.insert p.maps s.fork (slice_set m s.page entry.Empty)) o p.maps) g ≡ fin.get p.maps g
@@ -104,6 +110,12 @@ page_there maps held k page lives l =
 
 pub core_on : {a b c : _} → StaysInCore a b 0 → StaysInCore b c 0 → StaysInCore a c 0
 core_on k l = record { maps = λ f h. l.maps f (k.maps f h); pages = λ n h. l.pages n (k.pages n h); frames = omega (arith, k.frames, l.frames) }
+
+-- two steps, of which each leaves a home its page and name, or gives it up
+pub stays_on : {old mid new : HomePlace} {old_name mid_name new_name : Option PageName} {A B : Type 0} → Stays old mid old_name mid_name A → Stays mid new mid_name new_name B → (B → A) → Stays old new old_name new_name A
+stays_on (inl before) (inl now) back = inl (now.0 ∙ before.0, now.1 ∙ before.1)
+stays_on (inr before) (inl now) back = inr (now.0 ∙ before.0, now.1 ∙ before.1, before.2)
+stays_on before (inr now) back = inr (now.0, now.1, back now.2)
 
 module _ {S : Type 0} (store : StoreMeaning S) (k : ℕ) where
   -- none of its entries
@@ -141,7 +153,7 @@ module _ {S : Type 0} (store : StoreMeaning S) (k : ℕ) where
     limit = sets.limit ∙ so_far.limit;
     rest = λ j l. ap (λ (ms : List HeldMap). held_entry ms (record { map = k; page = j })) sets.maps
         ∙ entry_other maps at Empty (record { map = k; page = j }) (λ e. (let same : j ≡ page = ap (λ (x : EntryAt). x.page) e in absurd (omega (arith, same, l)))) ∙ so_far.rest j (omega (arith, l));
-    homes = λ home. homes_more home (so_far.homes home) (sets.homes home);
+    homes = λ home. stays_on (so_far.homes home) (sets.homes home) (named_first home);
     frames = λ none. sets.frames (λ home named. none home (named_first home named)) ∙ so_far.frames none;
     core = core_on so_far.core sets.core;
     lost = loses_on (traffic store old) (traffic store now) (traffic store new) so_far.lost sets.lost;
@@ -165,20 +177,6 @@ module _ {S : Type 0} (store : StoreMeaning S) (k : ℕ) where
 
       named_first : (home : ℕ) → NamesHome maps at home → MapNames tables.maps.held.items k home
       named_first home named = record { page = page; there = record { access = named.access; is = sym (so_far.rest page (omega arith)) ∙ named.is } }
-
-      first : Tables
-      first = tables_of (store.homes old) tables
-
-      mid : Tables
-      mid = tables_of (store.homes now) then_tables
-
-      last : Tables
-      last = tables_of (store.homes new) tables'
-
-      homes_more : (home : ℕ) → HomeStays first mid home (MapNames tables.maps.held.items k home) → HomeStays mid last home (NamesHome maps at home) → HomeStays first last home (MapNames tables.maps.held.items k home)
-      homes_more home (inl before) (inl now) = inl (now.0 ∙ before.0, now.1 ∙ before.1)
-      homes_more home (inr before) (inl now) = inr (now.0 ∙ before.0, now.1 ∙ before.1, before.2)
-      homes_more home before (inr now) = inr (now.0, now.1, named_first home now.2)
 
       told_more : (d : DrumWords) (f : ForkName) → fork_at tables.maps.held.items k ≡ Some f → FitsHomes (store.homes old) d → FitsHomes (store.homes new) d × AreFewer (plain_of (tables_of (store.homes old) tables) d) (plain_of (tables_of (store.homes new) tables') d) f
       told_more d f is fits =

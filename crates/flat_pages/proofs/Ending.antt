@@ -29,6 +29,7 @@ use Rattle.flat_tables.specs.HeldMaps.{AreHeld, fork_at, held_entry, map_at, ent
 use Rattle.flat_tables.specs.SlotTables.{Tables, AreTables}
 use Rattle.flat_tables.specs.TableSteps.{fork_ended}
 use Rattle.flat_pages.specs.Emptying.{AreFewer}
+use Rattle.flat_tables.proofs.AgreedTables.{agreed, named_in}
 use Rattle.flat_tables.proofs.ForkMaps.{SameFork, fork_tells, Once, searched, index_is, index_none, fork_within}
 use Rattle.flat_tables.proofs.LivingMaps.{get_living, get_gone}
 
@@ -149,24 +150,10 @@ none_named names n (e ∷ es) empty =
 
 -- the tables once the fork has ended
 pub ended_tables : (t : Tables) → AreTables t → (k : ℕ) (f : ForkName) → fork_at t.maps k ≡ Some f → ((page : ℕ) (e : HeldEntry) → held_entry t.maps (record { map = k; page = page }) ≡ Some e → e ≡ Empty) → AreTables (fork_ended t k)
-ended_tables t a k f is empty = record {
-  held = ended_held t.maps a.held k f is empty;
-  homes = a.homes;
-  named = a.named;
-  counted = a.counted;
-  shares = λ h. omega (arith, a.shares h, ended_total t.maps a.held k f is (points_at h));
-  filed = a.filed;
-  shared = a.shared;
-  is_taken = a.is_taken;
-  once = a.once;
-  old = a.old;
-  owners = a.owners;
-  taken = a.taken;
-  free = a.free;
-  living = omega (arith, a.living, ended_living t.maps a.held k f is);
-  room = omega (arith, a.room);
-  few = a.few;
-}
+ended_tables t a k f is empty =
+    agreed (fork_ended t k) (named_in t a)
+    (record { held = ended_held t.maps a.held k f is empty; counted = a.counted; shares = λ h. omega (arith, a.shares h, ended_total t.maps a.held k f is (points_at h)); filed = a.filed; shared = a.shared })
+    (omega (arith, a.living, ended_living t.maps a.held k f is)) (omega (arith, a.room))
 
 -- pages of which a fork's map was emptied and then taken away are those without the fork
 pub fewer_without : (p q : NumberedPages) (f : ForkName) (m n : Map) → AreWhole p → AreWhole q → AreFewer p q f → fin.get p.maps f ≡ Some m → fin.get q.maps f ≡ Some n → ((x : PageName) → map_uses x n ≡ 0)
@@ -176,7 +163,7 @@ fewer_without p q f m n w v fewer there still none =
     (removed ∙ sym (fork_maps p w f m there))
   where
     kept : AreKept p q
-    kept = record { objects = fewer.objects; files = fewer.files; page_serials = fewer.page_serials; console_serial = fewer.console_serial; limit = fewer.limit }
+    kept = record { objects = fewer.pages.objects; files = fewer.files; page_serials = fewer.pages.page_serials; console_serial = fewer.pages.console_serial; limit = fewer.pages.limit }
 
     fewer_named : (x : PageName) → nat_lt 0 (uses (record q { maps = fin.remove q.maps f }) x) ≡ true → nat_lt 0 (uses q x) ≡ true
     fewer_named x h = ap (nat_lt 0) (omega (arith, uses_are q x, uses_are (record q { maps = fin.remove q.maps f }) x, total_remove (map_uses x) q.maps f n still, none x)) ∙ h

@@ -25,7 +25,7 @@ use Rattle.plain_pages.specs.FilePages.{with_file, without_file, other_files}
 use Rattle.plain_pages.specs.WholePages.{AreWhole}
 use Rattle.plain_pages.specs.declared.map.MapEntry.{MapEntry}
 use Rattle.plain_pages.specs.declared.map.MapEntry.TheVariants as entry
-use Rattle.plain_pages.proofs.Kept.{AreStill, entry_again, still_same, unnamed_gone}
+use Rattle.plain_pages.proofs.Kept.{AreStill, entry_again, still_same}
 use Rattle.plain_pages.proofs.FilesKept.{filed_again, filed_files, filed_maps, filed_still, uses_filed, set_elsewhere, same_files, without_files, without_maps, without_still}
 use Rattle.flat_tables.specs.declared.held_entry.EntryAt.{EntryAt}
 use Rattle.flat_tables.specs.declared.held_entry.HeldEntry.{HeldEntry}
@@ -35,7 +35,7 @@ use Rattle.flat_tables.specs.declared.map_tables.MapTables.{MapTables}
 use Rattle.flat_tables.specs.HeldMaps.{fork_at, held_entry, with_entry, name_at, name_of, nobody, entry_of}
 use Rattle.flat_tables.specs.SlotTables.{Tables, plain_of, files_held, AreTables}
 use Rattle.flat_pages.specs.SlotMeaning.{AreTold}
-use Rattle.flat_tables.specs.SlotSteps.{HomeStays, NamesHome, SetsEntry}
+use Rattle.flat_tables.specs.SlotSteps.{NamesHome, SetsEntry}
 use Rattle.flat_pages.specs.FileSteps.{AreFewerFiled, EmptiesFile, FileHas, HasHome, IsFiled, SetsFile}
 use Rattle.flat_tables.specs.Walks.{slot_of}
 use Rattle.flat_tables.specs.TableSteps.{tables_of}
@@ -45,31 +45,15 @@ use Rattle.flat_tables.proofs.HeldEntries.{entry_same, entry_twice, fork_set}
 use Rattle.flat_tables.proofs.LivingMaps.{entry_held}
 use Rattle.flat_pages.proofs.Settling.{sized_of}
 use Rattle.flat_pages.proofs.EntrySetting.{same_core}
-use Rattle.flat_pages.proofs.EmptyMaps.{core_on, less_used}
+use Rattle.flat_pages.proofs.EmptyMaps.{core_on, less_used, names_itself, names_on, stays_on}
 
 -- the pages as they are
 pub fewer_itself : (p : NumberedPages) (file : ℕ) → AreWhole p → AreFewerFiled p p file
-fewer_itself p file w = record { objects = λ n. by n (nat_lt 0 (uses p n)) refl; named = λ n h. h; others = λ f ne. refl; maps = refl; page_serials = refl; console_serial = refl; limit = refl }
-  where
-    by : (n : PageName) (b : Bool) → nat_lt 0 (uses p n) ≡ b → fin.get p.objects n ≡ cond b (fin.get p.objects n) None
-    by n true is = refl
-    by n false is = unnamed_gone p w n is
+fewer_itself p file w = record { pages = names_itself p w; others = λ f ne. refl; maps = refl }
 
 -- fewer of fewer
 pub fewer_on : (p q r : NumberedPages) (file : ℕ) → AreFewerFiled p q file → AreFewerFiled q r file → AreFewerFiled p r file
-fewer_on p q r file k l = record {
-  objects = λ n. l.objects n ∙ by n (nat_lt 0 (uses r n)) refl;
-  named = λ n h. k.named n (l.named n h);
-  others = λ f ne. l.others f ne ∙ k.others f ne;
-  maps = l.maps ∙ k.maps;
-  page_serials = l.page_serials ∙ k.page_serials;
-  console_serial = l.console_serial ∙ k.console_serial;
-  limit = l.limit ∙ k.limit;
-}
-  where
-    by : (n : PageName) (b : Bool) → nat_lt 0 (uses r n) ≡ b → cond b (fin.get q.objects n) None ≡ cond b (fin.get p.objects n) None
-    by n true is = k.objects n ∙ ap (λ b. cond b (fin.get p.objects n) None) (l.named n is)
-    by n false is = refl
+fewer_on p q r file k l = record { pages = names_on p q r k.pages l.pages; others = λ f ne. l.others f ne ∙ k.others f ne; maps = l.maps ∙ k.maps }
 
 -- a page of the file that goes
 pub fewer_filed : (p : NumberedPages) → AreWhole p → (file page : ℕ) → AreFewerFiled p (with_file p (file_page file page) None) file
@@ -77,13 +61,15 @@ fewer_filed p w file page =
     let f : FilePage ℕ = file_page file page in
     let k = filed_still nat_cmp_total fin.nat_cmp-IsAntisymmetric p f None w in
     record {
-      objects = k.objects;
-      named = λ n h. less_used (uses (with_file p f None) n) (uses p n) (omega (arith, uses_filed nat_cmp_total fin.nat_cmp-IsAntisymmetric p f None n)) h;
+      pages = record {
+        objects = k.objects;
+        named = λ n h. less_used (uses (with_file p f None) n) (uses p n) (omega (arith, uses_filed nat_cmp_total fin.nat_cmp-IsAntisymmetric p f None n)) h;
+        page_serials = k.page_serials;
+        console_serial = k.console_serial;
+        limit = k.limit;
+      };
       others = λ g ne. ap (λ m. fin.get m g) (filed_files nat_cmp_total fin.nat_cmp-IsAntisymmetric p f None) ∙ set_elsewhere nat_cmp_total fin.nat_cmp-IsAntisymmetric p f g None (λ e. ne (ap (λ (x : FilePage ℕ). x.file) e));
       maps = filed_maps nat_cmp_total fin.nat_cmp-IsAntisymmetric p f None;
-      page_serials = k.page_serials;
-      console_serial = k.console_serial;
-      limit = k.limit;
     }
 
 module _ {S : Type 0} (store : StoreMeaning S) (file : ℕ) where
@@ -126,7 +112,7 @@ module _ {S : Type 0} (store : StoreMeaning S) (file : ℕ) where
     serials = sets.serials ∙ so_far.serials;
     living = sets.living ∙ so_far.living;
     limit = sets.limit ∙ so_far.limit;
-    homes = λ k. homes_more k (so_far.homes k) (sets.homes k);
+    homes = λ k. stays_on (so_far.homes k) (sets.homes k) (named_first k);
     frames = λ none. sets.frames (unfiled none (fin.get then_tables.files (file_page file page)) refl) ∙ so_far.frames none;
     core = core_on so_far.core sets.core;
     lost = loses_on (traffic store old) (traffic store now) (traffic store new) so_far.lost sets.lost;
@@ -140,20 +126,6 @@ module _ {S : Type 0} (store : StoreMeaning S) (file : ℕ) where
       unfiled none None is = is
       unfiled none (Some h) is = absurd (none h.0 (named_first h.0 is))
 
-      first : Tables
-      first = tables_of (store.homes old) tables
-
-      mid : Tables
-      mid = tables_of (store.homes now) then_tables
-
-      last : Tables
-      last = tables_of (store.homes new) tables'
-
-      homes_more : (k : ℕ) → HomeStays first mid k (FileHas tables.files file k) → HomeStays mid last k (IsFiled then_tables.files (file_page file page) k) → HomeStays first last k (FileHas tables.files file k)
-      homes_more k (inl before) (inl now) = inl (now.0 ∙ before.0, now.1 ∙ before.1)
-      homes_more k (inr before) (inl now) = inr (now.0 ∙ before.0, now.1 ∙ before.1, before.2)
-      homes_more k before (inr now) = inr (now.0, now.1, named_first k now.2)
-
 -- pages of which those of a file went one after another are those without the file
 pub fewer_without : (p q : NumberedPages) (file : ℕ) → AreWhole p → AreFewerFiled p q file → ((page : ℕ) → fin.get q.files (file_page file page) ≡ None) → q ≡ without_file p file
 fewer_without p q file w fewer gone =
@@ -162,7 +134,7 @@ fewer_without p q file w fewer gone =
     (same_files nat_cmp_total fin.nat_cmp-IsAntisymmetric q.files (other_files p file) (λ f. by f (eqb_tells f.file file)) ∙ sym (without_files nat_cmp_total fin.nat_cmp-IsAntisymmetric p file))
   where
     kept : AreStill p q
-    kept = record { objects = fewer.objects; page_serials = fewer.page_serials; console_serial = fewer.console_serial; limit = fewer.limit }
+    kept = record { objects = fewer.pages.objects; page_serials = fewer.pages.page_serials; console_serial = fewer.pages.console_serial; limit = fewer.pages.limit }
 
     test : FilePage ℕ → Bool
     test f = not (eq_by_cmp nat_cmp f.file file)
@@ -245,13 +217,8 @@ module _ {S : Type 0} (store : StoreMeaning S) (old now new : S) (tables then_ta
             ∙ entry_again p (tables_whole t a d (sized_of t.places d fits sound.pages)) s (entry_of t.names q) entry.Empty e (entry_held t.names t.maps a.held.once at s is ∙ ap (option_map (entry_of t.names)) there) refl named,
       )
 
-  homes_on : (k : ℕ) → HomeStays t mid k (NamesHome t.maps at k) → HomeStays mid last k (NamesHome mid.maps at k) → HomeStays t last k (NamesHome t.maps at k)
-  homes_on k (inl before) (inl now) = inl (now.0 ∙ before.0, now.1 ∙ before.1)
-  homes_on k (inr before) (inl now) = inr (now.0 ∙ before.0, now.1 ∙ before.1, before.2)
-  homes_on k before (inr now) = absurd (nothing_named k now.2)
-    where
-      nothing_named : (k : ℕ) → NamesHome mid.maps at k → ⊥
-      nothing_named k n = (let z : Some Empty ≡ Some (Page (record { 0 = k }) n.access) = sym (ap (λ (ms : List HeldMap). held_entry ms at) emptied.maps ∙ entry_same t.maps at Empty q there) ∙ n.is in cc z)
+  nothing_named : (k : ℕ) → NamesHome mid.maps at k → ⊥
+  nothing_named k n = (let z : Some Empty ≡ Some (Page (record { 0 = k }) n.access) = sym (ap (λ (ms : List HeldMap). held_entry ms at) emptied.maps ∙ entry_same t.maps at Empty q there) ∙ n.is in cc z)
 
   pub sets_on : SetsEntry store old new tables tables' at (Page h b)
   sets_on = record {
@@ -262,8 +229,8 @@ module _ {S : Type 0} (store : StoreMeaning S) (old now new : S) (tables then_ta
     serials = sets.serials ∙ emptied.serials;
     living = sets.living ∙ emptied.living;
     limit = sets.limit ∙ emptied.limit;
-    homes = λ k. homes_on k (emptied.homes k) (sets.homes k);
-    frames = λ none. sets.frames (λ k n. (let z : Some Empty ≡ Some (Page (record { 0 = k }) n.access) = sym (ap (λ (ms : List HeldMap). held_entry ms at) emptied.maps ∙ entry_same t.maps at Empty q there) ∙ n.is in cc z)) ∙ emptied.frames none;
+    homes = λ k. stays_on (emptied.homes k) (sets.homes k) (λ now. absurd (nothing_named k now));
+    frames = λ none. sets.frames nothing_named ∙ emptied.frames none;
     core = core_on emptied.core sets.core;
     lost = loses_on (traffic store old) (traffic store now) (traffic store new) emptied.lost sets.lost;
     used = none_on (traffic store old) (traffic store now) (traffic store new) emptied.used sets.used;
@@ -303,11 +270,6 @@ module _ {S : Type 0} (store : StoreMeaning S) (old now new : S) (tables then_ta
             ∙ ap (λ n. with_file p f (Some n)) (sym was_name),
       )
 
-  homes_filed : (k : ℕ) → HomeStays u between k (IsFiled u.files f k) → HomeStays between after k (IsFiled between.files f k) → HomeStays u after k (IsFiled u.files f k)
-  homes_filed k (inl before) (inl now) = inl (now.0 ∙ before.0, now.1 ∙ before.1)
-  homes_filed k (inr before) (inl now) = inr (now.0 ∙ before.0, now.1 ∙ before.1, before.2)
-  homes_filed k before (inr now) = absurd (let z : None ≡ Some (record { 0 = k }) = sym dropped.here ∙ now.2 in cc z)
-
   pub files_on : SetsFile store old new tables tables' f (Some h)
   files_on = record {
     told = told_filed;
@@ -318,7 +280,7 @@ module _ {S : Type 0} (store : StoreMeaning S) (old now new : S) (tables then_ta
     serials = sets.serials ∙ dropped.serials;
     living = sets.living ∙ dropped.living;
     limit = sets.limit ∙ dropped.limit;
-    homes = λ k. homes_filed k (dropped.homes k) (sets.homes k);
+    homes = λ k. stays_on (dropped.homes k) (sets.homes k) (λ now. absurd (let z : None ≡ Some (record { 0 = k }) = sym dropped.here ∙ now in cc z));
     frames = λ none. sets.frames dropped.here ∙ dropped.frames none;
     core = core_on dropped.core sets.core;
     lost = loses_on (traffic store old) (traffic store now) (traffic store new) dropped.lost sets.lost;

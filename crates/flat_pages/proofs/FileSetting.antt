@@ -31,6 +31,7 @@ use Rattle.flat_pages.specs.SlotMeaning.{AreTold}
 use Rattle.flat_tables.specs.TableSteps.{tables_of, joined_shares, entry_joined, file_joined, file_left, file_freed}
 use Rattle.flat_tables.specs.SlotSteps.{HomeStays, SetsEntry}
 use Rattle.flat_pages.specs.FileSteps.{IsFiled, SetsFile}
+use Rattle.flat_tables.proofs.AgreedTables.{agreed, named_in}
 use Rattle.flat_tables.proofs.HeldEntries.{total_with, total_le}
 use Rattle.flat_tables.proofs.FiledHomes.{at_here, at_itself, at_other, filed_more, filed_less, filed_within, filed_without, filed_some, files_still, get_filed, held_insert, held_remove, homes_with, with_here, with_elsewhere, without_none}
 use Rattle.flat_pages.proofs.FileCounts.{joined_is, parted_is}
@@ -65,46 +66,29 @@ module _ (t : Tables) (a : AreTables t) (h : Home) (named : is_some (name_at t.n
   -- by an entry
   module _ (at : EntryAt) (b : Access) (there : held_entry t.maps at ≡ Some Empty) (lives : fork_at t.maps at.map ≢ None) where
     pub entry_joined_tables : AreTables (entry_joined t at h b)
-    entry_joined_tables = record {
-      held = held_set t.maps a.held at Empty (Page h b) there (λ l c e. absurd (cc e)) (λ e. absurd (lives e));
-      homes = a.homes;
-      named = a.named;
-      counted = length-set t.shares h.0 (share_of t.shares h.0 + 1) ∙ a.counted;
-      shares = λ k. omega (arith, joined k, a.shares k, total_with t.maps at (Page h b) (points_at k) Empty there);
-      filed = a.filed;
-      shared = joined_shared;
-      is_taken = a.is_taken;
-      once = a.once;
-      old = a.old;
-      owners = a.owners;
-      taken = a.taken;
-      free = a.free;
-      living = a.living ∙ sym (living_set t.maps a.held at Empty (Page h b) there (λ l c e. absurd (cc e)) (λ e. absurd (lives e)));
-      room = a.room;
-      few = a.few;
-    }
+    entry_joined_tables =
+        agreed (entry_joined t at h b) (named_in t a)
+        (record {
+          held = held_set t.maps a.held at Empty (Page h b) there (λ l c e. absurd (cc e)) (λ e. absurd (lives e));
+          counted = length-set t.shares h.0 (share_of t.shares h.0 + 1) ∙ a.counted;
+          shares = λ k. omega (arith, joined k, a.shares k, total_with t.maps at (Page h b) (points_at k) Empty there);
+          filed = a.filed;
+          shared = joined_shared;
+        })
+        (a.living ∙ sym (living_set t.maps a.held at Empty (Page h b) there (λ l c e. absurd (cc e)) (λ e. absurd (lives e)))) a.room
 
   -- by a file
   module _ (f : FilePage ℕ) (bounds : (f.file < MOST_FILES) × (f.page < FILE_PAGES)) (none : fin.get t.files f ≡ None) where
     pub file_joined_tables : AreTables (file_joined t f h)
-    file_joined_tables = record {
-      held = a.held;
-      homes = a.homes;
-      named = a.named;
-      counted = length-set t.shares h.0 (share_of t.shares h.0 + 1) ∙ a.counted;
-      shares = λ k. omega (arith, joined k, a.shares k, filed_more t.files f h k none);
-      filed = filed_within t.files f h bounds a.filed;
-      shared = joined_shared;
-      is_taken = a.is_taken;
-      once = a.once;
-      old = a.old;
-      owners = a.owners;
-      taken = a.taken;
-      free = a.free;
-      living = a.living;
-      room = a.room;
-      few = a.few;
-    }
+    file_joined_tables =
+        agreed (file_joined t f h) (named_in t a)
+        (record {
+          held = a.held;
+          counted = length-set t.shares h.0 (share_of t.shares h.0 + 1) ∙ a.counted;
+          shares = λ k. omega (arith, joined k, a.shares k, filed_more t.files f h k none);
+          filed = filed_within t.files f h bounds a.filed;
+          shared = joined_shared;
+        }) a.living a.room
 
 -- a page that a file names keeps another name
 module _ (t : Tables) (a : AreTables t) (f : FilePage ℕ) (h : Home) (there : fin.get t.files f ≡ Some h) where
@@ -115,24 +99,15 @@ module _ (t : Tables) (a : AreTables t) (f : FilePage ℕ) (h : Home) (there : f
   parted = parted_is t.shares h filed_share
 
   pub file_left_tables : share_of t.shares h.0 ≢ 1 → AreTables (file_left t f h)
-  file_left_tables stays = record {
-    held = a.held;
-    homes = a.homes;
-    named = a.named;
-    counted = length-set t.shares h.0 (share_of t.shares h.0 - 1) ∙ a.counted;
-    shares = λ k. omega (arith, parted k, a.shares k, filed_less t.files f h k there);
-    filed = filed_without t.files f a.filed;
-    shared = λ k. a.shared k ∙ positive_same (share_of t.shares k) (share_of (slice_set t.shares h.0 (share_of t.shares h.0 - 1)) k) (back k) (λ z. omega (arith, parted k, z));
-    is_taken = a.is_taken;
-    once = a.once;
-    old = a.old;
-    owners = a.owners;
-    taken = a.taken;
-    free = a.free;
-    living = a.living;
-    room = a.room;
-    few = a.few;
-  }
+  file_left_tables stays =
+      agreed (file_left t f h) (named_in t a)
+      (record {
+        held = a.held;
+        counted = length-set t.shares h.0 (share_of t.shares h.0 - 1) ∙ a.counted;
+        shares = λ k. omega (arith, parted k, a.shares k, filed_less t.files f h k there);
+        filed = filed_without t.files f a.filed;
+        shared = λ k. a.shared k ∙ positive_same (share_of t.shares k) (share_of (slice_set t.shares h.0 (share_of t.shares h.0 - 1)) k) (back k) (λ z. omega (arith, parted k, z));
+      }) a.living a.room
     where
       back : (k : ℕ) → share_of (slice_set t.shares h.0 (share_of t.shares h.0 - 1)) k ≡ 0 → share_of t.shares k ≡ 0
       back k z = elim (cases_eq h.0 k) [

@@ -22,9 +22,10 @@ use Rattle.flat_tables.specs.declared.held_entry.EntryAt.{EntryAt}
 use Rattle.flat_tables.specs.declared.held_entry.HeldEntry.{HeldEntry}
 use Rattle.flat_tables.specs.declared.held_entry.HeldEntry.TheVariants.{Empty, Page, Follows}
 use Rattle.flat_tables.specs.declared.held_entry.Link.{Link}
-use Rattle.flat_tables.specs.HeldMaps.{fork_at, held_entry, name_at, maps_held, points_at, entries_total}
+use Rattle.flat_tables.specs.HeldMaps.{fork_at, held_entry, with_entry, name_at, maps_held, points_at, entries_total, living_in}
 use Rattle.flat_tables.specs.SlotTables.{Tables, plain_of, files_held, share_of, filed_total, AreTables, AreSized}
 use Rattle.flat_tables.specs.TableSteps.{left_shares, entry_kept, entry_left, home_freed, file_freed}
+use Rattle.flat_tables.proofs.AgreedTables.{AreNamed, agreed, named_in}
 use Rattle.flat_tables.proofs.FiledHomes.{at_itself, at_other, filed_less, filed_without}
 use Rattle.flat_tables.proofs.HeldEntries.{total_with, total_le, points_self, points_other}
 use Rattle.flat_pages.proofs.Agreement.{Housed, housed, uses_home, uses_none, object_home, object_gone, tables_whole}
@@ -94,6 +95,19 @@ module _ (t : Tables) (a : AreTables t) (h : Home) (one : share_of t.shares h.0 
       let old = not_free (place t.places h.0) (a.is_taken h.0 ∙ name_there) in
       omega (arith, s, old, a.free, freed_some)
 
+  freed_named : AreNamed (slice_set t.places h.0 free) names' t.serials (t.taken - 1) t.limit
+  freed_named = record {
+    homes = length-set t.places h.0 free ∙ a.homes;
+    named = length-set t.names h.0 None ∙ a.named;
+    is_taken = freed_taken;
+    once = λ j k n p q. a.once j k n (named_of j n p) (named_of k n q);
+    old = λ k n p. a.old k n (named_of k n p);
+    owners = a.owners;
+    taken = omega (arith, a.taken, counted_names);
+    free = freed;
+    few = a.few;
+  }
+
   -- where a file alone named it
   module _ (f : FilePage ℕ) (there : fin.get t.files f ≡ Some h) where
     filed_shares : (k : ℕ) → share_of (slice_set t.shares h.0 0) k ≡ entries_total (points_at k) t.maps + filed_total k (fin.remove t.files f)
@@ -105,71 +119,42 @@ module _ (t : Tables) (a : AreTables t) (h : Home) (one : share_of t.shares h.0 
     ]
 
     pub file_freed_tables : AreTables (file_freed t f h)
-    file_freed_tables = record {
-      held = a.held;
-      homes = length-set t.places h.0 free ∙ a.homes;
-      named = length-set t.names h.0 None ∙ a.named;
-      counted = length-set t.shares h.0 0 ∙ a.counted;
-      shares = filed_shares;
-      filed = filed_without t.files f a.filed;
-      shared = freed_shared;
-      is_taken = freed_taken;
-      once = λ j k n p q. a.once j k n (named_of j n p) (named_of k n q);
-      old = λ k n p. a.old k n (named_of k n p);
-      owners = a.owners;
-      taken = omega (arith, a.taken, counted_names);
-      free = freed;
-      living = a.living;
-      room = omega (arith, a.room);
-      few = a.few;
-    }
+    file_freed_tables =
+        agreed (file_freed t f h) freed_named
+        (record { held = a.held; counted = length-set t.shares h.0 0 ∙ a.counted; shares = filed_shares; filed = filed_without t.files f a.filed; shared = freed_shared })
+        a.living (omega (arith, a.room))
 
 module _ (t : Tables) (a : AreTables t) (at : EntryAt) (q e : HeldEntry) (there : held_entry t.maps at ≡ Some q) (page : (l : Link) (b : Access) → e ≡ Follows l b → l.page < SPACE_PAGES) (used : fork_at t.maps at.map ≡ None → e ≡ Empty) where
   le : (k : ℕ) → points_at k q ≤ share_of t.shares k
   le k = omega (arith, a.shares k, total_le (points_at k) t.maps at q refl there)
 
+  living_still : t.living ≡ living_in (with_entry t.maps at e)
+  living_still = a.living ∙ sym (living_set t.maps a.held at q e there page used)
+
   -- the same page is named, or none as before
   pub kept_tables : ((k : ℕ) → points_at k e ≡ points_at k q) → AreTables (entry_kept t at e)
-  kept_tables same = record {
-    held = held_set t.maps a.held at q e there page used;
-    homes = a.homes;
-    named = a.named;
-    counted = a.counted;
-    shares = λ k. omega (arith, a.shares k, total_with t.maps at e (points_at k) q there, same k);
-    filed = a.filed;
-    shared = a.shared;
-    is_taken = a.is_taken;
-    once = a.once;
-    old = a.old;
-    owners = a.owners;
-    taken = a.taken;
-    free = a.free;
-    living = a.living ∙ sym (living_set t.maps a.held at q e there page used);
-    room = a.room;
-    few = a.few;
-  }
+  kept_tables same =
+      agreed (entry_kept t at e) (named_in t a)
+      (record {
+        held = held_set t.maps a.held at q e there page used;
+        counted = a.counted;
+        shares = λ k. omega (arith, a.shares k, total_with t.maps at e (points_at k) q there, same k);
+        filed = a.filed;
+        shared = a.shared;
+      }) living_still a.room
 
   module _ (none : (k : ℕ) → points_at k e ≡ 0) where
     -- the page keeps another name
     pub left_tables : ((k : ℕ) → points_at k q ≡ 1 → share_of t.shares k ≢ 1) → AreTables (entry_left t at e)
-    left_tables stays = record {
-      held = held_set t.maps a.held at q e there page used;
-      homes = a.homes;
-      named = a.named;
-      counted = left_length t.shares (held_entry t.maps at) ∙ a.counted;
-      shares = λ k. omega (arith, left k, a.shares k, total_with t.maps at e (points_at k) q there, none k);
-      filed = a.filed;
-      shared = λ k. a.shared k ∙ positive_same (share_of t.shares k) (share_of (left_shares t.shares (held_entry t.maps at)) k) (back k) (λ z. omega (arith, left k, z));
-      is_taken = a.is_taken;
-      once = a.once;
-      old = a.old;
-      owners = a.owners;
-      taken = a.taken;
-      free = a.free;
-      living = a.living ∙ sym (living_set t.maps a.held at q e there page used);
-      room = a.room;
-      few = a.few;
-    }
+    left_tables stays =
+        agreed (entry_left t at e) (named_in t a)
+        (record {
+          held = held_set t.maps a.held at q e there page used;
+          counted = left_length t.shares (held_entry t.maps at) ∙ a.counted;
+          shares = λ k. omega (arith, left k, a.shares k, total_with t.maps at e (points_at k) q there, none k);
+          filed = a.filed;
+          shared = λ k. a.shared k ∙ positive_same (share_of t.shares k) (share_of (left_shares t.shares (held_entry t.maps at)) k) (back k) (λ z. omega (arith, left k, z));
+        }) living_still a.room
       where
         left : (k : ℕ) → share_of (left_shares t.shares (held_entry t.maps at)) k + points_at k q ≡ share_of t.shares k
         left k = ap (λ o. share_of (left_shares t.shares o) k + points_at k q) there ∙ left_is t.shares q le k
@@ -201,24 +186,10 @@ module _ (t : Tables) (a : AreTables t) (at : EntryAt) (q e : HeldEntry) (there 
       ]
 
       pub freed_tables : AreTables t'
-      freed_tables = record {
-        held = held_set t.maps a.held at q e there page used;
-        homes = length-set t.places h.0 free ∙ a.homes;
-        named = length-set t.names h.0 None ∙ a.named;
-        counted = length-set t.shares h.0 0 ∙ a.counted;
-        shares = shares_are;
-        filed = a.filed;
-        shared = freed_shared t a h one;
-        is_taken = freed_taken t a h one;
-        once = λ j k n f g. a.once j k n (named_of t a h one j n f) (named_of t a h one k n g);
-        old = λ k n f. a.old k n (named_of t a h one k n f);
-        owners = a.owners;
-        taken = omega (arith, a.taken, counted_names t a h one);
-        free = freed t a h one;
-        living = a.living ∙ sym (living_set t.maps a.held at q e there page used);
-        room = omega (arith, a.room);
-        few = a.few;
-      }
+      freed_tables =
+          agreed t' (freed_named t a h one)
+          (record { held = held_set t.maps a.held at q e there page used; counted = length-set t.shares h.0 0 ∙ a.counted; shares = shares_are; filed = a.filed; shared = freed_shared t a h one })
+          living_still (omega (arith, a.room))
 
 -- where names and words go, and none come, the pages are kept that are still named
 module _ (t t' : Tables) (a : AreTables t) (a' : AreTables t') (d : DrumWords) (sized : AreSized t.places d) (sized' : AreSized t'.places d) (names : (k : ℕ) (n : PageName) → name_at t'.names k ≡ Some n → name_at t.names k ≡ Some n)

@@ -18,15 +18,19 @@ use Rattle.flat_tables.specs.SlotTouches.{scene_of}
 use Rattle.flat_tables.specs.TableSteps.{tables_of}
 use Rattle.flat_tables.specs.SlotSteps.{HomeStays, NamesHome}
 
--- pages of which one fork's map alone names fewer: those that are still named are there with their words
-pub record AreFewer (p q : NumberedPages) (f : ForkName) : Type 0 where
+-- pages of which fewer are named: those that still are, are there with their words
+pub record NamesFewer (p q : NumberedPages) : Type 0 where
   pub objects : (n : PageName) → map.get q.objects n ≡ (if nat_lt 0 (uses q n) then map.get p.objects n else None)
   pub named : (n : PageName) → nat_lt 0 (uses q n) ≡ true → nat_lt 0 (uses p n) ≡ true
-  pub others : (g : ForkName) → same_fork g f ≡ false → map.get q.maps g ≡ map.get p.maps g
-  pub files : q.files ≡ p.files
   pub page_serials : q.page_serials ≡ p.page_serials
   pub console_serial : q.console_serial ≡ p.console_serial
   pub limit : q.limit ≡ p.limit
+
+-- pages of which one fork's map alone names fewer
+pub record AreFewer (p q : NumberedPages) (f : ForkName) : Type 0 where
+  pub pages : NamesFewer p q
+  pub others : (g : ForkName) → same_fork g f ≡ false → map.get q.maps g ≡ map.get p.maps g
+  pub files : q.files ≡ p.files
 
 -- a map names the page of a home
 pub record MapNames (maps : List HeldMap) (k home : ℕ) : Type 0 where

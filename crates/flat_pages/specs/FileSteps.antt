@@ -1,9 +1,8 @@
 -- What steps on pages of files do to a store and to the tables beside it.
-use Rattle.std.specs.Prelude.{◌≡◌, ◌≢◌, ℕ, ◌<◌, ◌≤◌, List, true, None, Some, Option, nat_lt, if◌then◌else◌}
+use Rattle.std.specs.Prelude.{◌≡◌, ◌≢◌, ℕ, ◌<◌, ◌≤◌, List, None, Some, Option}
 use Rattle.std.specs.FinMap as map
 use Rattle.machine_names.specs.Orders.{FilePage, file_page}
 use Rattle.machine_names.specs.PageWords.{zero_words}
-use Rattle.machine_names.specs.declared.names.PageName.{PageName}
 use Rattle.machine_names.specs.declared.names.Tty.{Tty}
 use Rattle.page_files.specs.Pages.{PagesOf}
 use Rattle.page_homes.specs.declared.homes.Home.{Home}
@@ -12,13 +11,13 @@ use Rattle.page_contracts.specs.Pages.{StaysInCore}
 use Rattle.page_contracts.specs.Stores.{StoreMeaning, IsMade, IsUsed, FitsHomes, Loses, RenewsNone, here, traffic}
 use Rattle.plain_pages.specs.PlainPages.{NumberedPages}
 use Rattle.plain_pages.specs.FilePages.{with_file}
-use Rattle.plain_pages.specs.Room.{uses}
 use Rattle.std.specs.Option.{option_map}
 use Rattle.flat_tables.specs.declared.held_entry.EntryAt.{EntryAt}
 use Rattle.flat_tables.specs.declared.held_map.HeldMap.{HeldMap}
 use Rattle.flat_tables.specs.declared.map_tables.MapTables.{MapTables}
 use Rattle.flat_tables.specs.HeldMaps.{name_of}
 use Rattle.flat_tables.specs.SlotTables.{plain_of}
+use Rattle.flat_pages.specs.Emptying.{NamesFewer}
 use Rattle.flat_pages.specs.SlotMeaning.{filed_in}
 use Rattle.flat_tables.specs.SlotTouches.{scene_of}
 use Rattle.flat_tables.specs.SlotSteps.{HomeStays, NamesHome}
@@ -72,15 +71,11 @@ pub record SetsFile {S : Type 0} (store : StoreMeaning S) (old new : S) (tables 
   pub lost : Loses (traffic store old) (traffic store new)
   pub used : RenewsNone (traffic store old) (traffic store new)
 
--- pages of which one file alone names fewer: those that are still named are there with their words
+-- pages of which one file alone names fewer
 pub record AreFewerFiled (p q : NumberedPages) (file : ℕ) : Type 0 where
-  pub objects : (n : PageName) → map.get q.objects n ≡ (if nat_lt 0 (uses q n) then map.get p.objects n else None)
-  pub named : (n : PageName) → nat_lt 0 (uses q n) ≡ true → nat_lt 0 (uses p n) ≡ true
+  pub pages : NamesFewer p q
   pub others : (f : FilePage ℕ) → f.file ≢ file → map.get q.files f ≡ map.get p.files f
   pub maps : q.maps ≡ p.maps
-  pub page_serials : q.page_serials ≡ p.page_serials
-  pub console_serial : q.console_serial ≡ p.console_serial
-  pub limit : q.limit ≡ p.limit
 
 -- a file names the page of a home
 pub record FileHas (files : PagesOf Home) (file home : ℕ) : Type 0 where

@@ -32,6 +32,7 @@ use Rattle.flat_tables.specs.SlotTables.{Tables, plain_of, AreTables}
 use Rattle.flat_tables.specs.Serials.{serial_of}
 use Rattle.flat_tables.specs.SlotTouches.{scene_of}
 use Rattle.flat_tables.specs.TableSteps.{fork_begun}
+use Rattle.flat_tables.proofs.AgreedTables.{agreed, named_in}
 use Rattle.flat_tables.proofs.ForkMaps.{SameFork, fork_tells, Once, searched, index_fork, index_is, index_none}
 use Rattle.flat_tables.proofs.HeldEntries.{points_self, sum_zero}
 use Rattle.flat_tables.proofs.LivingMaps.{inserted, get_living, get_gone}
@@ -249,24 +250,16 @@ module _ (maps : List HeldMap) (held : AreHeld maps) (k : ℕ) (f : ForkName) (e
 -- the tables, with a fork more
 pub tables_begun : (t : Tables) → AreTables t → (k : ℕ) (f : ForkName) (entries : List HeldEntry) → k < length t.maps → fork_at t.maps k ≡ None → first_map f.tty ≤ k → k < first_map f.tty + MOST_FORKS
     → is_some (index_of t.maps f) ≡ false → AreNew entries → t.taken + t.living < t.limit → AreTables (fork_begun t k f entries)
-tables_begun t a k f entries within unlived from below absent new room = record {
-  held = held_begun t.maps a.held k f entries within unlived from below absent new;
-  homes = a.homes;
-  named = a.named;
-  counted = a.counted;
-  shares = λ h. omega (arith, a.shares h, total_begun t.maps a.held k f entries within unlived from below absent new h);
-  filed = a.filed;
-  shared = a.shared;
-  is_taken = a.is_taken;
-  once = a.once;
-  old = a.old;
-  owners = a.owners;
-  taken = a.taken;
-  free = a.free;
-  living = ap (λ n. n + 1) a.living ∙ sym (living_begun t.maps a.held k f entries within unlived from below absent new);
-  room = omega (arith, room);
-  few = a.few;
-}
+tables_begun t a k f entries within unlived from below absent new room =
+    agreed (fork_begun t k f entries) (named_in t a)
+    (record {
+      held = held_begun t.maps a.held k f entries within unlived from below absent new;
+      counted = a.counted;
+      shares = λ h. omega (arith, a.shares h, total_begun t.maps a.held k f entries within unlived from below absent new h);
+      filed = a.filed;
+      shared = a.shared;
+    })
+    (ap (λ n. n + 1) a.living ∙ sym (living_begun t.maps a.held k f entries within unlived from below absent new)) (omega (arith, room))
 
 -- the plain pages, with the map of a new fork
 pub plain_begun : (t : Tables) → AreTables t → (k : ℕ) (f : ForkName) (entries : List HeldEntry) → k < length t.maps → fork_at t.maps k ≡ None → first_map f.tty ≤ k → k < first_map f.tty + MOST_FORKS

@@ -4,6 +4,7 @@ pub mod WalkSteps
 pub mod LivingMaps
 pub mod FiledHomes
 pub mod NextSerials
+pub mod AgreedTables
 pub mod Taking
 pub mod Making
 pub mod Beginning

@@ -23,6 +23,7 @@ use Rattle.flat_tables.specs.Serials.{serial_of, with_next}
 use Rattle.flat_tables.specs.HeldMaps.{map_at, fork_at, held_entry, with_entry, entry_set, name_at, points_at, entries_total, living_in, AreHeld}
 use Rattle.flat_tables.specs.SlotTables.{Tables, share_of, filed_total, AreTables}
 use Rattle.flat_tables.specs.TableSteps.{next_name, left_shares, home_filed, home_taken, home_renamed}
+use Rattle.flat_tables.proofs.AgreedTables.{AreNamed, agreed}
 use Rattle.flat_tables.proofs.FiledHomes.{at_itself, at_other, filed_more, filed_within}
 use Rattle.flat_tables.proofs.HeldEntries.{at_tells, held_within, fork_set, maps_length, entries_length, entry_same, entry_other, total_with, total_le, points_self, points_here, points_other}
 use Rattle.flat_tables.proofs.NextSerials.{next_own, next_later, next_length}
@@ -171,6 +172,19 @@ module _ (t : Tables) (a : AreTables t) (owner : Tty) (own : IsOwner owner) (hom
     named_more : count_by is_some names' ≡ t.taken + 1
     named_more = let none : ◌≡◌ {A = ℕ} (cond (is_some (name_at t.names home)) 1 0) 0 = ap (λ c. cond c 1 0) no_name in omega (arith, a.taken, counted_names, none)
 
+    taken_named : AreNamed (slice_set t.places home page) names' (with_next t.serials owner) (t.taken + 1) t.limit
+    taken_named = record {
+      homes = length-set t.places home page ∙ a.homes;
+      named = length-set t.names home (Some (next_name t.serials owner)) ∙ a.named;
+      is_taken = taken_at;
+      once = renamed_once;
+      old = renamed_old;
+      owners = next_length t.serials owner ∙ a.owners;
+      taken = sym named_more;
+      free = freed;
+      few = a.few;
+    }
+
   -- a free home is taken; the page that the entry named keeps another name
   module _ (at : EntryAt) (q : HeldEntry) (page : HomePlace) (b : Access) (there : held_entry t.maps at ≡ Some q) (lives : fork_at t.maps at.map ≢ None) (was_free : place t.places home ≡ free) (is_page : is_taken page ≡ true)
       (stays : (k : ℕ) → points_at k q ≡ 1 → share_of t.shares k ≢ 1) (room : t.taken + t.living + 1 ≤ t.limit) where
@@ -219,24 +233,16 @@ module _ (t : Tables) (a : AreTables t) (owner : Tty) (own : IsOwner owner) (hom
     ]
 
     pub taken_tables : AreTables t'
-    taken_tables = record {
-      held = held_set t.maps a.held at q (Page h b) there (λ l c e. absurd (cc e)) (λ e. absurd (lives e));
-      homes = length-set t.places home page ∙ a.homes;
-      named = length-set t.names home (Some (next_name t.serials owner)) ∙ a.named;
-      counted = length-set (left_shares t.shares (held_entry t.maps at)) home 1 ∙ left_length t.shares (held_entry t.maps at) ∙ a.counted;
-      shares = shares_are;
-      filed = a.filed;
-      shared = shared;
-      is_taken = taken_at page was_free is_page;
-      once = renamed_once;
-      old = renamed_old;
-      owners = next_length t.serials owner ∙ a.owners;
-      taken = sym (named_more page was_free is_page);
-      free = freed page was_free is_page;
-      living = a.living ∙ sym (living_set t.maps a.held at q (Page h b) there (λ l c e. absurd (cc e)) (λ e. absurd (lives e)));
-      room = omega (arith, room);
-      few = a.few;
-    }
+    taken_tables =
+        agreed t' (taken_named page was_free is_page)
+        (record {
+          held = held_set t.maps a.held at q (Page h b) there (λ l c e. absurd (cc e)) (λ e. absurd (lives e));
+          counted = length-set (left_shares t.shares (held_entry t.maps at)) home 1 ∙ left_length t.shares (held_entry t.maps at) ∙ a.counted;
+          shares = shares_are;
+          filed = a.filed;
+          shared = shared;
+        })
+        (a.living ∙ sym (living_set t.maps a.held at q (Page h b) there (λ l c e. absurd (cc e)) (λ e. absurd (lives e)))) (omega (arith, room))
 
   -- a free home is taken for a page that a file names
   module _ (f : FilePage ℕ) (page : HomePlace) (bounds : (f.file < MOST_FILES) × (f.page < FILE_PAGES)) (none : fin.get t.files f ≡ None) (was_free : place t.places home ≡ free) (is_page : is_taken page ≡ true) (room : t.taken + t.living + 1 ≤ t.limit) where
@@ -267,24 +273,10 @@ module _ (t : Tables) (a : AreTables t) (owner : Tty) (own : IsOwner owner) (hom
     ]
 
     pub filed_tables : AreTables u
-    filed_tables = record {
-      held = a.held;
-      homes = length-set t.places home page ∙ a.homes;
-      named = length-set t.names home (Some (next_name t.serials owner)) ∙ a.named;
-      counted = length-set t.shares home 1 ∙ a.counted;
-      shares = filed_shares;
-      filed = filed_within t.files f own_home bounds a.filed;
-      shared = filed_shared;
-      is_taken = taken_at page was_free is_page;
-      once = renamed_once;
-      old = renamed_old;
-      owners = next_length t.serials owner ∙ a.owners;
-      taken = sym (named_more page was_free is_page);
-      free = freed page was_free is_page;
-      living = a.living;
-      room = omega (arith, room);
-      few = a.few;
-    }
+    filed_tables =
+        agreed u (taken_named page was_free is_page)
+        (record { held = a.held; counted = length-set t.shares home 1 ∙ a.counted; shares = filed_shares; filed = filed_within t.files f own_home bounds a.filed; shared = filed_shared })
+        a.living (omega (arith, room))
 
   -- the home of the page that an entry alone names gets a new name
   module _ (at : EntryAt) (b c : Access) (there : held_entry t.maps at ≡ Some (Page (record { 0 = home }) c)) (lives : fork_at t.maps at.map ≢ None) (one : share_of t.shares home ≡ 1) where
@@ -302,21 +294,24 @@ module _ (t : Tables) (a : AreTables t) (owner : Tty) (own : IsOwner owner) (hom
 
     pub renamed_tables : AreTables (home_renamed t at g b owner)
     renamed_tables =
-        let some : ◌≡◌ {A = ℕ} (cond (is_some (name_at t.names home)) 1 0) 1 = ap (λ x. cond x 1 0) name_there in record {
-          held = held_set t.maps a.held at (Page g c) (Page g b) there (λ l x e. absurd (cc e)) (λ e. absurd (lives e));
+        let some : ◌≡◌ {A = ℕ} (cond (is_some (name_at t.names home)) 1 0) 1 = ap (λ x. cond x 1 0) name_there in
+        agreed (home_renamed t at g b owner)
+        (record {
           homes = a.homes;
           named = length-set t.names home (Some (next_name t.serials owner)) ∙ a.named;
-          counted = a.counted;
-          shares = λ k. omega (arith, a.shares k, total_with t.maps at (Page g b) (points_at k) (Page g c) there);
-          filed = a.filed;
-          shared = λ k. named_still k ∙ a.shared k;
           is_taken = λ k. a.is_taken k ∙ sym (named_still k);
           once = renamed_once;
           old = renamed_old;
           owners = next_length t.serials owner ∙ a.owners;
           taken = omega (arith, a.taken, counted_names, some);
           free = a.free;
-          living = a.living ∙ sym (living_set t.maps a.held at (Page g c) (Page g b) there (λ l x e. absurd (cc e)) (λ e. absurd (lives e)));
-          room = a.room;
           few = a.few;
-        }
+        })
+        (record {
+          held = held_set t.maps a.held at (Page g c) (Page g b) there (λ l x e. absurd (cc e)) (λ e. absurd (lives e));
+          counted = a.counted;
+          shares = λ k. omega (arith, a.shares k, total_with t.maps at (Page g b) (points_at k) (Page g c) there);
+          filed = a.filed;
+          shared = λ k. named_still k ∙ a.shared k;
+        })
+        (a.living ∙ sym (living_set t.maps a.held at (Page g c) (Page g b) there (λ l x e. absurd (cc e)) (λ e. absurd (lives e)))) a.room

@@ -1,8 +1,9 @@
 -- What steps do to a store and to the tables beside it.
-use Rattle.std.specs.Prelude.{◌≡◌, ◌⊎◌, ℕ, List, None, Some}
+use Rattle.std.specs.Prelude.{◌≡◌, ◌⊎◌, ℕ, List, Option, None, Some}
 use Rattle.plain_pages.specs.Maps.{narrowed}
 use Rattle.machine_names.specs.declared.names.Access.{Access}
 use Rattle.page_homes.specs.declared.homes.Home.{Home}
+use Rattle.machine_names.specs.declared.names.PageName.{PageName}
 use Rattle.machine_names.specs.declared.names.Tty.{Tty}
 use Rattle.page_contracts.specs.Stores.{StoreMeaning, HomePlace, IsMade, FitsHomes, Loses, RenewsNone, free, place, traffic}
 use Rattle.machine_names.specs.declared.names.Slot.{Slot}
@@ -31,9 +32,12 @@ pub record NamesHome (maps : List HeldMap) (at : EntryAt) (home : ℕ) : Type 0 
   pub access : Access
   pub is : held_entry maps at ≡ Some (Page (record { 0 = home }) access)
 
--- a home keeps its page and name, or is given up, and then this is so
+-- the page of a home and its name stay, or the home is given up, and then this is so
+abbrev pub Stays : HomePlace → HomePlace → Option PageName → Option PageName → Type 0 → Type 0
+Stays old new old_name new_name named = ((new ≡ old) × (new_name ≡ old_name)) ⊎ ((new ≡ free) × (new_name ≡ None) × named)
+
 abbrev pub HomeStays : Tables → Tables → ℕ → Type 0 → Type 0
-HomeStays t t' home named = ((place t'.places home ≡ place t.places home) × (name_at t'.names home ≡ name_at t.names home)) ⊎ ((place t'.places home ≡ free) × (name_at t'.names home ≡ None) × named)
+HomeStays t t' home named = Stays (place t.places home) (place t'.places home) (name_at t.names home) (name_at t'.names home) named
 
 -- an entry was set: what no entry names any more was given up, and nothing has left its frame
 pub record SetsEntry {S : Type 0} (store : StoreMeaning S) (old new : S) (tables tables' : MapTables) (at : EntryAt) (e : HeldEntry) : Type 0 where

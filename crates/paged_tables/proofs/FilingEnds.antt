@@ -10,10 +10,10 @@ use Rattle.plain_pages.specs.PlainPages.{NumberedPages}
 use Rattle.plain_pages.specs.FilePages.{with_file}
 use Rattle.flat_pages.specs.FileSteps.{AreFewerFiled, FileHas, IsFiled}
 use Rattle.flat_pages.proofs.Agreement.{tables_whole}
-use Rattle.flat_pages.proofs.EmptyMaps.{core_on}
+use Rattle.flat_pages.proofs.EmptyMaps.{core_on, stays_on}
 use Rattle.flat_pages.proofs.EntrySetting.{same_core}
 use Rattle.flat_pages.proofs.FileEnds.{fewer_filed, fewer_itself, fewer_on}
-use Rattle.paged_tables.specs.FiledSteps.{EmptiesFiled, PageStays, SetsFiled}
+use Rattle.paged_tables.specs.FiledSteps.{EmptiesFiled, SetsFiled}
 use Rattle.paged_tables.specs.PagedTables.{Beside, AreKept, in_memory_over, plain_over}
 use Rattle.paged_tables.proofs.Homed.{sized}
 
@@ -58,7 +58,7 @@ module _ {S : Type 0} (store : StoreMeaning S) (file : ℕ) where
     serials = sets.serials ∙ so_far.serials;
     living = sets.living ∙ so_far.living;
     limit = sets.limit ∙ so_far.limit;
-    homes = λ k. homes_more k (so_far.homes k) (sets.homes k);
+    homes = λ k. stays_on (so_far.homes k) (sets.homes k) (named_first k);
     frames = λ none. sets.frames (unfiled none (fin.get b1.files (file_page file page)) refl) ∙ so_far.frames none;
     away = sets.away ∙ so_far.away;
     core = core_on so_far.core sets.core;
@@ -72,8 +72,3 @@ module _ {S : Type 0} (store : StoreMeaning S) (file : ℕ) where
       unfiled : ((k : ℕ) → FileHas b.files file k → ⊥) → (o : Option Home) → fin.get b1.files (file_page file page) ≡ o → fin.get b1.files (file_page file page) ≡ None
       unfiled none None is = is
       unfiled none (Some h) is = absurd (none h.0 (named_first h.0 is))
-
-      homes_more : (k : ℕ) → PageStays b (store.homes old) b1 (store.homes mid) k (FileHas b.files file k) → PageStays b1 (store.homes mid) b' (store.homes new) k (IsFiled b1.files (file_page file page) k) → PageStays b (store.homes old) b' (store.homes new) k (FileHas b.files file k)
-      homes_more k (inl before) (inl now) = inl (now.0 ∙ before.0, now.1 ∙ before.1)
-      homes_more k (inr before) (inl now) = inr (now.0 ∙ before.0, now.1 ∙ before.1, before.2)
-      homes_more k before (inr now) = inr (now.0, now.1, named_first k now.2)

@@ -26,7 +26,7 @@ use Rattle.flat_pages.specs.FileSteps.{IsFiled}
 use Rattle.flat_tables.specs.SlotTables.{files_held, filed_total}
 use Rattle.flat_tables.specs.SlotTouches.{home_named}
 use Rattle.flat_pages.proofs.Agreement.{tables_whole, uses_home}
-use Rattle.flat_pages.proofs.EmptyMaps.{core_on}
+use Rattle.flat_pages.proofs.EmptyMaps.{core_on, stays_on}
 use Rattle.flat_pages.proofs.EntrySetting.{same_core}
 use Rattle.flat_tables.proofs.FiledHomes.{at_itself, filed_apart, filed_less, filed_order, filed_some, files_still, get_filed, homes_with, with_elsewhere, with_here, without_none}
 use Rattle.flat_pages.proofs.Telling.{named_home}
@@ -240,11 +240,6 @@ module _ {S : Type 0} (store : StoreMeaning S) (old mid new : S) (b b1 b' : Besi
             ∙ ap (λ n. with_file p f (Some n)) (sym was_name),
       )
 
-  homes_filed : (k : ℕ) → PageStays b (store.homes old) b1 (store.homes mid) k (IsFiled b.files f k) → PageStays b1 (store.homes mid) b' (store.homes new) k (IsFiled b1.files f k) → PageStays b (store.homes old) b' (store.homes new) k (IsFiled b.files f k)
-  homes_filed k (inl before) (inl now) = inl (now.0 ∙ before.0, now.1 ∙ before.1)
-  homes_filed k (inr before) (inl now) = inr (now.0 ∙ before.0, now.1 ∙ before.1, before.2)
-  homes_filed k before (inr now) = absurd (let z : None ≡ Some (record { 0 = k }) = sym dropped.here ∙ now.2 in cc z)
-
   pub files_on : SetsFiled store old new b b' f (Some h)
   files_on = record {
     told = told_filed;
@@ -255,7 +250,7 @@ module _ {S : Type 0} (store : StoreMeaning S) (old mid new : S) (b b1 b' : Besi
     serials = sets.serials ∙ dropped.serials;
     living = sets.living ∙ dropped.living;
     limit = sets.limit ∙ dropped.limit;
-    homes = λ k. homes_filed k (dropped.homes k) (sets.homes k);
+    homes = λ k. stays_on (dropped.homes k) (sets.homes k) (λ now. absurd (let z : None ≡ Some (record { 0 = k }) = sym dropped.here ∙ now in cc z));
     frames = λ none. sets.frames dropped.here ∙ dropped.frames none;
     away = sets.away ∙ dropped.away;
     core = core_on dropped.core sets.core;

@@ -1,5 +1,5 @@
 -- What steps on pages of files do to a store and to what is kept beside it.
-use Rattle.std.specs.Prelude.{◌≡◌, ◌≢◌, ◌⊎◌, ℕ, ◌<◌, ◌≤◌, List, Option, None, Some, is_some}
+use Rattle.std.specs.Prelude.{◌≡◌, ◌≢◌, ℕ, ◌<◌, ◌≤◌, List, Option, None, Some, is_some}
 use Rattle.std.specs.FinMap as fin
 use Rattle.std.specs.Option.{option_map}
 use Rattle.machine_names.specs.declared.names.Slot.{Slot}
@@ -7,10 +7,11 @@ use Rattle.machine_names.specs.Orders.{FilePage, file_page}
 use Rattle.page_homes.specs.declared.homes.Home.{Home}
 use Rattle.page_contracts.specs.DrumWords.{DrumWords}
 use Rattle.page_contracts.specs.Pages.{StaysInCore}
-use Rattle.page_contracts.specs.Stores.{HomePlace, Loses, RenewsNone, StoreMeaning, free, place, traffic}
+use Rattle.page_contracts.specs.Stores.{HomePlace, Loses, RenewsNone, StoreMeaning, place, traffic}
 use Rattle.plain_pages.specs.FilePages.{filed_by, with_file}
 use Rattle.share_table.specs.declared.shares.Share.{Share}
 use Rattle.share_table.specs.Shares.{page_at}
+use Rattle.flat_tables.specs.SlotSteps.{Stays}
 use Rattle.flat_pages.specs.FileSteps.{AreFewerFiled, FileHas, IsFiled}
 use Rattle.pager_walk.specs.PagedMaps.{map_away, name_at, name_of}
 use Rattle.paged_tables.specs.FiledTables.{with_share}
@@ -19,9 +20,9 @@ use Rattle.paged_tables.specs.PagedSlots.{filed_over}
 use Rattle.paged_tables.specs.PagedTables.{Beside, FitsPages, plain_over}
 use Rattle.paged_tables.specs.PagedTouches.{scene_over}
 
--- a home keeps its page and name, or is given up, and then this is so
+-- the page of a home and its name stay, or the home is given up, and then this is so
 abbrev pub PageStays : Beside → List HomePlace → Beside → List HomePlace → ℕ → Type 0 → Type 0
-PageStays b places b' places' home named = ((place places' home ≡ place places home) × (name_at b'.tables.names home ≡ name_at b.tables.names home)) ⊎ ((place places' home ≡ free) × (name_at b'.tables.names home ≡ None) × named)
+PageStays b places b' places' home named = Stays (place places home) (place places' home) (name_at b.tables.names home) (name_at b'.tables.names home) named
 
 -- a page of a file was set, to that of a home or to none: what nothing names any more was given up, and nothing has left its frame
 pub record SetsFiled {S : Type 0} (store : StoreMeaning S) (old new : S) (b b' : Beside) (f : FilePage ℕ) (home : Option Home) : Type 0 where
