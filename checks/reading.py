@@ -1,8 +1,8 @@
-"""Which files of definitions the headline rests on, worked out from the definitions, and whether docs/PROMISES.md says so.
+"""Which files of definitions the headline of `run` rests on, worked out from the definitions, and whether docs/PROMISES.md says so.
 
 A definition reaches each name that it uses: of its own file, or of a file of specs that its file takes the name from. The types and
-constants of the code (`declared`) are counted, and end the way. Status 1: the document says otherwise, and what differs was printed.
-docs/book/make.py prints what is reached.
+constants of the code (`declared`) are counted, and end the way. What the headline of `big` adds is told beside it. Status 1: the document
+says otherwise, and what differs was printed. docs/book/make.py prints what both reach.
 """
 import collections
 import glob
@@ -10,6 +10,7 @@ import re
 import sys
 
 HEADLINE = (("tenex_console", "Headline"), "HasHeadline")
+OF_BIG = (("tenex_console", "Headline"), "RunsGenerated")
 WORD = re.compile(r"[A-Za-z_◌][A-Za-z0-9_'◌]*|[^\sA-Za-z0-9_(){}\[\],.;:\"']+")
 TAKES = re.compile(r"use Rattle\.([a-z0-9_]+)\.specs\.([A-Za-z0-9_.]+?)(?:\.\{(.*)\}| as (\S+))?\s*$")
 MARKS = r"(?:abbrev |unfoldable |pub |record |data )"
@@ -156,16 +157,20 @@ def uses_of(files, place):
     return uses, declared
 
 
-def reach(files):
-    """What each definition uses that the headline reaches."""
+def reach(files, left_out=()):
+    """What each definition uses that the headline reaches, but for some definitions."""
     reached = {}
     todo = [HEADLINE]
     while todo:
         place = todo.pop()
-        if place not in reached:
+        if place not in reached and place not in left_out:
             reached[place] = uses_of(files, place)
             todo += reached[place][0]
     return reached
+
+
+def lines_of(files, places):
+    return sum(len(files[file].definitions[name].lines) for file, name in places)
 
 
 def compare(wanted, said):
@@ -185,7 +190,8 @@ def compare(wanted, said):
 
 def main():
     files = read_files()
-    reached = reach(files)
+    reached = reach(files, (OF_BIG,))
+    more = [place for place in reach(files) if place not in reached]
     declared = {place[::2] for _, used in reached.values() for place in used}
     wanted = collections.defaultdict(set)
     for (crate, file), _ in reached:
@@ -193,7 +199,7 @@ def main():
     for file in sorted({file for file, _ in reached}):
         for line in files[file].stray:
             fail(f"{files[file].path}: of which definition is the line {line!r}?")
-    lines = sum(len(files[file].definitions[name].lines) for file, name in reached)
+    lines = lines_of(files, reached)
 
     with open("docs/PROMISES.md", encoding="utf-8") as file:
         promises = file.read()
@@ -209,6 +215,7 @@ def main():
         sys.exit(1)
     count = sum(map(len, wanted.values()))
     print(f"reading.py: the headline rests on {count} files, {len(reached)} definitions of {lines} lines, and {len(declared)} types and constants")
+    print(f"reading.py: that of big on {len(more)} definitions more, of {lines_of(files, more)} lines")
 
 
 if __name__ == "__main__":

@@ -10,7 +10,7 @@ use Rattle.machine_names.proofs.OrderLemmas.{fork_cmp_apart}
 use Rattle.machine_names.specs.declared.names.ForkName.{ForkName}
 use Rattle.machine_names.specs.declared.names.TheConstants.{MOST_FORKS}
 use Rattle.plain_model.specs.declared.fork.Fork.{Fork}
-use Rattle.plain_model.specs.Inferiors.{is_inferior}
+use Rattle.plain_model.specs.Inferiors.{is_in_branch, is_inferior}
 use Rattle.plain_model.specs.Trees.{PlainTree}
 use Rattle.fork_tree.specs.Inferiors.{HasNoInferior, without_branch}
 use Rattle.fork_tree.specs.Trees.{IsTree, Lives}
@@ -19,18 +19,14 @@ use Rattle.fork_tree.proofs.Leaves.{inferior_is, inferior_none}
 use Rattle.fork_tree.proofs.Slots.{cases_name, get_gone, get_gone_other, held_lives, in_found, names_same, same_forks, same_itself}
 use Rattle.fork_tree.proofs.Upward.{or_true, superior_in, superior_lives}
 
--- whether a fork goes with the branch of one
-abbrev pub goes : ForkMap → ForkName → ForkName → Bool
-goes forks who name = same_fork name who || is_inferior forks who name
-
 -- who is left of a branch's job
-pub left_of : (forks : ForkMap) (who q : ForkName) → map.get (without_branch forks who) q ≡ cond (not (goes forks who q)) (map.get forks q) None
+pub left_of : (forks : ForkMap) (who q : ForkName) → map.get (without_branch forks who) q ≡ cond (not (is_in_branch forks who q)) (map.get forks q) None
 unfolding without_branch
 left_of forks who q =
-    map.get-retain_keys forks (λ name. not (goes forks who name)) q (λ x e. ap (λ n. not (goes forks who n)) (sym (fork_cmp_apart q x e)))
+    map.get-retain_keys forks (λ name. not (is_in_branch forks who name)) q (λ x e. ap (λ n. not (is_in_branch forks who n)) (sym (fork_cmp_apart q x e)))
 
-pub gone_or_left : (forks : ForkMap) (who q : ForkName) → MatchBool (goes forks who q) (map.get (without_branch forks who) q ≡ None) (map.get (without_branch forks who) q ≡ map.get forks q)
-gone_or_left forks who q = by (goes forks who q) (left_of forks who q)
+pub gone_or_left : (forks : ForkMap) (who q : ForkName) → MatchBool (is_in_branch forks who q) (map.get (without_branch forks who) q ≡ None) (map.get (without_branch forks who) q ≡ map.get forks q)
+gone_or_left forks who q = by (is_in_branch forks who q) (left_of forks who q)
   where
     by : (b : Bool) → map.get (without_branch forks who) q ≡ cond (not b) (map.get forks q) None → MatchBool b (map.get (without_branch forks who) q ≡ None) (map.get (without_branch forks who) q ≡ map.get forks q)
     by true e = e
@@ -40,13 +36,13 @@ gone_or_left forks who q = by (goes forks who q) (left_of forks who q)
 pub last_of_branch : (forks : ForkMap) (who : ForkName) → HasNoInferior forks who → without_branch forks who ≡ map.remove forks who
 last_of_branch forks who none = same_forks (without_branch forks who) (map.remove forks who) (λ q. left_of forks who q ∙ there q (cases_name q who))
   where
-    there : (q : ForkName) → (q ≡ who) ⊎ (q ≡ who → ⊥) → cond (not (goes forks who q)) (map.get forks q) None ≡ map.get (map.remove forks who) q
+    there : (q : ForkName) → (q ≡ who) ⊎ (q ≡ who → ⊥) → cond (not (is_in_branch forks who q)) (map.get forks q) None ≡ map.get (map.remove forks who) q
     there q (inl same) =
         let it_is : same_fork q who ≡ true = ap (λ n. same_fork n who) same ∙ same_itself who in
         ap (λ b. cond (not (b || is_inferior forks who q)) (map.get forks q) None) it_is ∙ sym (get_gone forks who q same)
     there q (inr ne) = ap (λ b. cond (not b) (map.get forks q) None) (not_it (cases_Bool (same_fork q who)) ∙ none q) ∙ sym (get_gone_other forks who q ne)
       where
-        not_it : (same_fork q who ≡ true) ⊎ (same_fork q who ≡ false) → goes forks who q ≡ is_inferior forks who q
+        not_it : (same_fork q who ≡ true) ⊎ (same_fork q who ≡ false) → is_in_branch forks who q ≡ is_inferior forks who q
         not_it (inl it_is) = absurd (ne (names_same q who it_is))
         not_it (inr fails) = ap (λ b. b || is_inferior forks who q) fails
 
@@ -109,10 +105,10 @@ module _ (tree : PlainTree) (is : IsTree tree) (leaf : Fork) (lives : Lives tree
       none_either true = refl
       none_either false = refl
 
-      there : (q : ForkName) → (q ≡ leaf.name) ⊎ (q ≡ leaf.name → ⊥) → cond (not (goes fewer.forks who q)) (map.get fewer.forks q) None ≡ cond (not (goes tree.forks who q)) (map.get tree.forks q) None
+      there : (q : ForkName) → (q ≡ leaf.name) ⊎ (q ≡ leaf.name → ⊥) → cond (not (is_in_branch fewer.forks who q)) (map.get fewer.forks q) None ≡ cond (not (is_in_branch tree.forks who q)) (map.get tree.forks q) None
       there q (inl same) =
-          let it_goes : goes tree.forks who q ≡ true = or_true (same_fork q who) (is_inferior tree.forks who q) (ap (is_inferior tree.forks who) same ∙ below) in
-          ap (λ o. cond (not (goes fewer.forks who q)) o None) (get_gone tree.forks leaf.name q same) ∙ (none_either (not (goes fewer.forks who q)) ∙ sym (ap (λ b. cond (not b) (map.get tree.forks q) None) it_goes))
+          let it_goes : is_in_branch tree.forks who q ≡ true = or_true (same_fork q who) (is_inferior tree.forks who q) (ap (is_inferior tree.forks who) same ∙ below) in
+          ap (λ o. cond (not (is_in_branch fewer.forks who q)) o None) (get_gone tree.forks leaf.name q same) ∙ (none_either (not (is_in_branch fewer.forks who q)) ∙ sym (ap (λ b. cond (not b) (map.get tree.forks q) None) it_goes))
       there q (inr ne) =
           ap (λ b. cond (not (same_fork q who || b)) (map.get fewer.forks q) None) (inferior_stays who q ne)
-          ∙ ap (λ o. cond (not (goes tree.forks who q)) o None) (get_gone_other tree.forks leaf.name q ne)
+          ∙ ap (λ o. cond (not (is_in_branch tree.forks who q)) o None) (get_gone_other tree.forks leaf.name q ne)

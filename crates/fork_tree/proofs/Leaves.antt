@@ -10,7 +10,7 @@ use Rattle.machine_names.specs.Orders.{same_fork}
 use Rattle.machine_names.specs.declared.names.ForkName.{ForkName}
 use Rattle.machine_names.specs.declared.names.TheConstants.{MOST_FORKS}
 use Rattle.plain_model.specs.declared.fork.Fork.{Fork}
-use Rattle.plain_model.specs.Inferiors.{is_inferior, is_under, is_within}
+use Rattle.plain_model.specs.Inferiors.{is_inferior, is_within}
 use Rattle.plain_model.specs.Trees.{PlainTree, next_serial}
 use Rattle.fork_tree.specs.Inferiors.{HasNoInferior, IsLeafBelow}
 use Rattle.fork_tree.specs.Trees.{IsTree, Lives, above}
@@ -108,7 +108,7 @@ module _ (tree : PlainTree) (is : IsTree tree) where
 
   -- whether the fork in a slot of a fork's job has that fork as its superior
   abbrev under_in : Fork → ℕ → Bool
-  under_in f slot = is_under tree.forks f slot
+  under_in f slot = option_map_or (λ g. option_eq nat_eq g.superior (Some f.slot)) (fork_in tree.forks f.name.tty slot) false
 
   under_is : (f : Fork) (slot : ℕ) (o : Option Fork) → fork_in tree.forks f.name.tty slot ≡ o → under_in f slot ≡ option_map_or (λ g. option_eq nat_eq g.superior (Some f.slot)) o false
   under_is f slot o e = ap (λ x. option_map_or (λ (g : Fork). option_eq nat_eq g.superior (Some f.slot)) x false) e

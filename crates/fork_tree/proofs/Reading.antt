@@ -1,5 +1,5 @@
 -- What is known of who waits, where forks come, go and are changed.
-use Rattle.std.proofs.Common.{◌≡◌, ◌≢◌, ℕ, ◌<◌, ◌≤◌, List, [], ◌∷◌, length, get_or, set, Bool, true, false, Option, None, Some, refl, sym, ◌∙◌, ap, arith, ◌⊎◌, inl, inr, get_or-set_same, get_or-set_other}
+use Rattle.std.proofs.Common.{option_map, ◌≡◌, ◌≢◌, ℕ, ◌<◌, ◌≤◌, List, [], ◌∷◌, length, get_or, set, Bool, true, false, Option, None, Some, refl, sym, ◌∙◌, ap, arith, ◌⊎◌, inl, inr, get_or-set_same, get_or-set_other}
 use Rattle.std.proofs.lemmas.Bool.{cases_eq}
 use Rattle.std.specs.Prelude.{IsSome, MatchBool, ◌||◌}
 use Rattle.std.specs.FinMap as map
@@ -12,7 +12,8 @@ use Rattle.script_texts.specs.declared.status.ForkStatus.{ForkStatus}
 use Rattle.script_texts.specs.declared.status.ForkStatus.TheVariants.{Run, Wait, Halted, Forced}
 use Rattle.script_texts.specs.declared.status.WaitOn.TheVariants as on
 use Rattle.plain_model.specs.Forks.{ForkMap, fork_in, with_status}
-use Rattle.plain_model.specs.Trees.{changed, changed_in, with_body, with_mark, without_read}
+use Rattle.plain_model.specs.Trees.{changed, job_changed, with_body, with_mark, without_read}
+use Rattle.plain_model.proofs.ChangedForks.{get_changed, of_job, others_alone, own_changed}
 use Rattle.fork_tree.specs.Trees.{AreSlotted, Lives}
 use Rattle.fork_tree.specs.Waking.{AreQuiet, NoneWaits, freed, freed_of, is_by, lent_notes, may_wait, quiet_notes}
 use Rattle.fork_tree.specs.declared.notes.Awaited.{Awaited}
@@ -20,7 +21,7 @@ use Rattle.fork_tree.specs.declared.notes.Awaited.TheVariants.{Character, End, M
 use Rattle.fork_tree.specs.declared.notes.Due.{Due}
 use Rattle.fork_tree.specs.declared.notes.Due.TheVariants.{Never}
 use Rattle.fork_tree.specs.declared.notes.Notes.{Notes}
-use Rattle.fork_tree.proofs.Slots.{cases_name, get_gone, get_gone_other, get_put, get_put_other, in_tells, some_of}
+use Rattle.fork_tree.proofs.Slots.{cases_name, get_gone, get_gone_other, get_put, get_put_other, held_lives, in_tells, same_forks, some_of}
 use Rattle.plain_model.proofs.ForkMaps.{put_itself}
 
 -- a halted fork waits for nothing
@@ -139,16 +140,18 @@ quiet_none notes t a off f lives job = let h : None ≡ Some f = sym (map.get-em
 -- ---- where none waits, nothing changes
 
 module _ (forks : ForkMap) (slotted : AreSlotted forks) (t : Tty) (awaited : Awaited) (none : NoneWaits awaited forks t) where
-  unmoved : (slot : ℕ) (o : Option Fork) → fork_in forks t slot ≡ o → changed forks (freed_of awaited) o ≡ forks
-  unmoved slot None e = refl
-  unmoved slot (Some k) e =
-      let at = in_tells forks slotted t slot k e in
-      let same : freed_of awaited k ≡ k = ap (with_status k) (none k at.0 at.1) in
-      ap (map.insert forks k.name) same ∙ put_itself forks k.name k at.0
+  pub nobody_freed : job_changed (freed_of awaited) t forks ≡ forks
+  nobody_freed = same_forks _ _ (λ q. get_changed (of_job (freed_of awaited) t) forks q ∙ by q (map.get forks q) refl)
+    where
+      unmoved : (k : Fork) → Lives forks k → of_job (freed_of awaited) t k ≡ k
+      unmoved k lives = elim (cases_eq k.name.tty.0 t.0) [
+        | inl job ↦ own_changed (freed_of awaited) t k job ∙ ap (with_status k) (none k lives job)
+        | inr other ↦ others_alone (freed_of awaited) t k other
+      ]
 
-  pub nobody_freed : (slots : List ℕ) → changed_in (freed_of awaited) forks t slots ≡ forks
-  nobody_freed [] = refl
-  nobody_freed (slot ∷ slots) = ap (λ m. changed_in (freed_of awaited) m t slots) (unmoved slot (fork_in forks t slot) refl) ∙ nobody_freed slots
+      by : (q : ForkName) (o : Option Fork) → map.get forks q ≡ o → option_map (of_job (freed_of awaited) t) o ≡ o
+      by q None is = refl
+      by q (Some k) is = ap Some (unmoved k (held_lives forks slotted q k is))
 
 -- ---- who has been woken doesn't wait
 

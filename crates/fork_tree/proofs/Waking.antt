@@ -1,21 +1,29 @@
--- The forks of a job changed slot by slot; so who waits for a fork runs again when one ends, and who waits for a character when one is stored.
-use Rattle.std.proofs.Common.{◌≡◌, ℕ, zero, suc, ◌+◌, ◌<◌, ◌≤◌, Option, None, Some, refl, sym, ◌∙◌, ap, subst, arith, inl, inr, ◌⊎◌}
+-- The forks of a job changed: it is the same where they are changed slot by slot. So who waits for a fork runs again when one ends, and who
+-- waits for a character when one is stored.
+use Rattle.std.proofs.Common.{◌≡◌, ℕ, zero, suc, ◌+◌, ◌<◌, ◌≤◌, List, [], ◌∷◌, Option, None, Some, refl, sym, ◌∙◌, ap, subst, arith, inl, inr, ◌⊎◌}
 use Rattle.std.specs.List.{range_with_len}
+use Rattle.std.specs.Option.{option_map}
 use Rattle.std.specs.FinMap as map
-use Rattle.std.proofs.lemmas.Bool.{cases_lt}
-use Rattle.plain_model.specs.Forks.{fork_in}
+use Rattle.std.proofs.lemmas.Bool.{cases_eq, cases_lt}
+use Rattle.plain_model.specs.Forks.{ForkMap, fork_in}
 use Rattle.machine_names.specs.declared.names.ForkName.{ForkName}
 use Rattle.machine_names.specs.declared.names.Tty.{Tty}
 use Rattle.machine_names.specs.declared.names.TheConstants.{MOST_FORKS}
 use Rattle.plain_model.specs.declared.fork.Fork.{Fork}
-use Rattle.plain_model.specs.Trees.{PlainTree, changed, changed_in, unread, unwaited, readers_woken, waiters_woken, without_read}
+use Rattle.plain_model.specs.Trees.{PlainTree, changed, job_changed, unread, unwaited, readers_woken, waiters_woken, without_read}
+use Rattle.plain_model.proofs.ChangedForks.{changed_from, get_changed, of_job, others_alone, own_changed}
 use Rattle.plain_model.proofs.Posted.{IsSame}
 use Rattle.fork_tree.specs.Trees.{IsIn, IsTree, Lives}
 use Rattle.fork_tree.specs.Waking.{NoneWaits}
 use Rattle.fork_tree.specs.declared.notes.Awaited.TheVariants.{Character}
 use Rattle.fork_tree.proofs.Reading.{read_once}
 use Rattle.fork_tree.proofs.Kept.{changed_tree}
-use Rattle.fork_tree.proofs.Slots.{cases_name, get_put, get_put_other, in_found, in_tells}
+use Rattle.fork_tree.proofs.Slots.{cases_name, get_put, get_put_other, held_lives, in_found, in_tells, same_forks}
+
+-- the forks in these slots of a job changed, in order
+abbrev pub changed_in : (Fork → Fork) → ForkMap → Tty → List ℕ → ForkMap
+changed_in change forks t [] = forks
+changed_in change forks t (slot ∷ slots) = changed_in change (changed forks change (fork_in forks t slot)) t slots
 
 -- a change that keeps names, slots and superiors
 module _ (change : Fork → Fork) (same : (f : Fork) → IsSame f (change f)) (t : Tty) where
@@ -99,36 +107,62 @@ module _ (change : Fork → Fork) (same : (f : Fork) → IsSame f (change f)) (t
           ap (map.get (changed_in change (changed tree.forks change (fork_in tree.forks t from)) t (range_with_len (from + 1) n))) (sym still.0)
           ∙ apart_stays n (from + 1) (changed_at tree (fork_in tree.forks t from)) w.tree_still (change f) (w.here f (lives, job, slot)) (λ j above below. omega (arith, above, slot, still.1))
 
+  -- all slots are all forks of the job
+  pub by_slots : (tree : PlainTree) → IsTree tree → changed_in change tree.forks t (range_with_len 1 MOST_FORKS) ≡ job_changed change t tree.forks
+  by_slots tree is = same_forks _ _ (λ q. by q (map.get tree.forks q) refl ∙ sym (get_changed (of_job change t) tree.forks q))
+    where
+      all : ForkMap
+      all = changed_in change tree.forks t (range_with_len 1 MOST_FORKS)
+
+      by : (q : ForkName) (o : Option Fork) → map.get tree.forks q ≡ o → map.get all q ≡ option_map (of_job change t) (map.get tree.forks q)
+      by q None none = absent_stays MOST_FORKS 1 tree is q none ∙ sym (ap (option_map (of_job change t)) none)
+      by q (Some f) there =
+          let own = is.slotted.own q f there in
+          let lives = held_lives tree.forks is.slotted q f there in
+          ap (map.get all) (sym own)
+          ∙ elim (cases_eq f.name.tty.0 t.0) [
+            | inl job ↦ each_changed MOST_FORKS 1 tree is f lives job (is.slotted.first f lives) (omega (arith, is.slotted.last f lives)) ∙ ap Some (sym (own_changed change t f job))
+            | inr other ↦ apart_stays MOST_FORKS 1 tree is f lives (λ job low high. other job) ∙ ap Some (sym (others_alone change t f other))
+          ]
+          ∙ sym (ap (option_map (of_job change t)) there)
+
+-- a fork of the job is changed, and any other stays
+module _ (change : Fork → Fork) (t : Tty) (forks : ForkMap) (f : Fork) (lives : Lives forks f) where
+  pub job_here : f.name.tty.0 ≡ t.0 → map.get (job_changed change t forks) f.name ≡ Some (change f)
+  job_here job = get_changed (of_job change t) forks f.name ∙ ap (option_map (of_job change t)) lives ∙ ap Some (own_changed change t f job)
+
+  pub job_other : (f.name.tty.0 ≡ t.0 → ⊥) → map.get (job_changed change t forks) f.name ≡ Some f
+  job_other other = get_changed (of_job change t) forks f.name ∙ ap (option_map (of_job change t)) lives ∙ ap Some (others_alone change t f other)
+
+-- a name of which no fork lives stays so
+pub job_none : (change : Fork → Fork) (t : Tty) (forks : ForkMap) (name : ForkName) → map.get forks name ≡ None → map.get (job_changed change t forks) name ≡ None
+job_none change t forks name none = get_changed (of_job change t) forks name ∙ ap (option_map (of_job change t)) none
+
 module _ (tree : PlainTree) (is : IsTree tree) (t : Tty) (f : Fork) (lives : Lives tree.forks f) where
   -- each fork of the job
   pub all_woken : f.name.tty.0 ≡ t.0 → map.get (waiters_woken tree.forks t) f.name ≡ Some (unwaited f)
   unfolding waiters_woken
-  all_woken job = each_changed unwaited (λ k. (refl, refl, refl)) t MOST_FORKS 1 tree is f lives job (is.slotted.first f lives) (omega (arith, is.slotted.last f lives))
+  all_woken job = job_here unwaited t tree.forks f lives job
 
   -- and no other
   pub others_stay : (f.name.tty.0 ≡ t.0 → ⊥) → map.get (waiters_woken tree.forks t) f.name ≡ Some f
   unfolding waiters_woken
-  others_stay other = apart_stays unwaited (λ k. (refl, refl, refl)) t MOST_FORKS 1 tree is f lives (λ job low high. other job)
+  others_stay other = job_other unwaited t tree.forks f lives other
 
   -- so it is with who waits for a character
   pub all_read : f.name.tty.0 ≡ t.0 → map.get (readers_woken tree.forks t) f.name ≡ Some (unread f)
   unfolding readers_woken
-  all_read job = each_changed unread (λ k. (refl, refl, refl)) t MOST_FORKS 1 tree is f lives job (is.slotted.first f lives) (omega (arith, is.slotted.last f lives))
+  all_read job = job_here unread t tree.forks f lives job
 
   pub others_keep : (f.name.tty.0 ≡ t.0 → ⊥) → map.get (readers_woken tree.forks t) f.name ≡ Some f
   unfolding readers_woken
-  others_keep other = apart_stays unread (λ k. (refl, refl, refl)) t MOST_FORKS 1 tree is f lives (λ job low high. other job)
+  others_keep other = job_other unread t tree.forks f lives other
 
 -- and so none waits for one any more
 pub none_reads : (tree : PlainTree) → IsTree tree → (t : Tty) → NoneWaits Character (readers_woken tree.forks t) t
 unfolding readers_woken
-none_reads tree is t f lives job = by (map.get tree.forks f.name) refl
-  where
-    by : (o : Option Fork) → map.get tree.forks f.name ≡ o → without_read f.body.status ≡ f.body.status
-    by None e = let none : None ≡ Some f = sym (absent_stays unread (λ k. (refl, refl, refl)) t MOST_FORKS 1 tree is f.name e) ∙ lives in absurd (cc none)
-    by (Some g) e =
-        let own = is.slotted.own f.name g e in
-        let before : Lives tree.forks g = ap (map.get tree.forks) own ∙ e in
-        let after : Some (unread g) ≡ Some f = sym (all_read tree is t g before (ap (λ (n : ForkName). n.tty.0) own ∙ job)) ∙ (ap (map.get (readers_woken tree.forks t)) own ∙ lives) in
-        let same : unread g ≡ f = cc after in
-        subst (λ (k : Fork). without_read k.body.status ≡ k.body.status) same (read_once g.body.status)
+none_reads tree is t f lives job =
+    let was = changed_from (of_job unread t) tree.forks f.name f lives in
+    let own = is.slotted.own f.name was.0 was.1 in
+    let same : unread was.0 ≡ f = sym (own_changed unread t was.0 (ap (λ (n : ForkName). n.tty.0) own ∙ job)) ∙ was.2 in
+    subst (λ (k : Fork). without_read k.body.status ≡ k.body.status) same (read_once (was.0).body.status)

@@ -1,11 +1,13 @@
 -- Who stands below whom, in other words.
-use Rattle.std.specs.Prelude.{◌≡◌, ℕ, ◌≤◌, true, false, not, ◌||◌, Option, None, Some}
+use Rattle.std.specs.Prelude.{◌≡◌, ℕ, ◌≤◌, true, false, not, Option, None, Some}
+use Rattle.std.specs.declared.cmp.Ordering.{Ordering}
 use Rattle.std.specs.FinMap as map
 use Rattle.machine_names.specs.declared.names.ForkName.{ForkName}
 use Rattle.plain_model.specs.declared.fork.Fork.{Fork}
 use Rattle.plain_model.specs.Forks.{ForkMap}
-use Rattle.machine_names.specs.Orders.{same_fork}
-use Rattle.plain_model.specs.Inferiors.{is_inferior}
+use Rattle.plain_model.specs.ForkCalls.{ForkParts}
+use Rattle.plain_model.specs.Inferiors.{is_in_branch, is_inferior}
+use Rattle.plain_pages.specs.References.{without_fork}
 use Rattle.fork_tree.specs.Trees.{IsAncestor, IsIn, Lives}
 
 -- a fork is an inferior of another: that one is its superior, the superior of that, and so on
@@ -18,7 +20,11 @@ pub record IsInferior (forks : ForkMap) (who name : ForkName) : Type 0 where
 
 -- the forks that are left where one and all its inferiors are killed
 unfoldable pub without_branch : ForkMap → ForkName → ForkMap
-without_branch forks who = map.retain_keys forks (λ name. not (same_fork name who || is_inferior forks who name))
+without_branch forks who = map.retain_keys forks (λ name. not (is_in_branch forks who name))
+
+-- without one fork and its map; a page that loses its last name is dropped
+abbrev pub without : {K : Type 0} {file_cmp : K → K → Ordering} → ForkParts file_cmp → ForkName → ForkParts file_cmp
+without v f = record { tree = record v.tree { forks = map.remove v.tree.forks f }; pages = without_fork v.pages f }
 
 -- nobody is an inferior of this fork
 abbrev pub HasNoInferior : ForkMap → ForkName → Type 0

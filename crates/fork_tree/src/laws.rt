@@ -12,10 +12,10 @@ ghost use Rattle.machine_names.specs.Orders.{same_fork};
 ghost use Rattle.plain_model.specs.State.{opening};
 ghost use Rattle.std.specs.Option.{option_map};
 ghost use Rattle.std.specs.Ordering.{nat_cmp};
-ghost use Rattle.plain_model.specs.Inferiors.{is_inferior, last_below};
-ghost use Rattle.fork_tree.specs.Inferiors.{HasNoInferior, IsInferior, IsLastBelow, IsLeafBelow, without_branch};
+ghost use Rattle.plain_model.specs.Inferiors.{is_in_branch, is_inferior};
+ghost use Rattle.fork_tree.specs.Inferiors.{HasNoInferior, IsInferior, IsLeafBelow, without, without_branch};
 ghost use Rattle.plain_model.specs.Trees.{new_fork, PlainTree, tree_of, unwaited, waiters_woken};
-ghost use Rattle.plain_model.specs.ForkCalls.{ForkParts, killed};
+ghost use Rattle.plain_model.specs.ForkCalls.{ForkParts, killed, without_inferiors};
 ghost use Rattle.fork_tree.specs.Making.{Makes, room_for};
 ghost use Rattle.fork_tree.specs.Trees.{IsAncestor, IsTree, Lives, above};
 
@@ -69,18 +69,18 @@ pub fn forks_are_frozen_from_above()
 /// and all its inferiors and nobody else.
 pub fn a_branch_is_killed_from_below()
     ensures gone { (forks : ForkMap) (who name : AForkName)
-        → MatchBool (same_fork name who || is_inferior forks who name) (map.get (without_branch forks who) name ≡ None) (map.get (without_branch forks who) name ≡ map.get forks name) }
+        → MatchBool (is_in_branch forks who name) (map.get (without_branch forks who) name ≡ None) (map.get (without_branch forks who) name ≡ map.get forks name) }
     ensures leaf { (tree : PlainTree) (who : AForkName) (f : AFork) → IsTree tree → IsLeafBelow tree.forks who f → without_branch (map.remove tree.forks f.name) who ≡ without_branch tree.forks who }
     ensures last { (forks : ForkMap) (who : AForkName) → HasNoInferior forks who → without_branch forks who ≡ map.remove forks who }
 {}
 
-/// A fork that is killed goes with all its inferiors and with nobody else: each time the inferior goes first that is in
-/// the highest slot of those without any, and the fork itself goes last.
+/// A fork that is killed goes with all its inferiors and with nobody else. The forks and pages that are left are the same where they go one
+/// after another: first an inferior that has none itself, each time, and the fork itself last.
 pub fn a_killed_fork_takes_its_branch()
-    ensures first { (tree : PlainTree) (who : AForkName) → IsTree tree → MatchOption (last_below tree.forks who) (HasNoInferior tree.forks who) (λ f. IsLastBelow tree.forks who f.name) }
-    ensures once { (tree : PlainTree) (who : AForkName) (last : Option AForkName) → IsTree tree → MatchOption last (HasNoInferior tree.forks who) (λ name. IsLastBelow tree.forks who name)
-        → last ≡ option_map (λ f. f.name) (last_below tree.forks who) }
-    ensures branch { (v : ForkParts nat_cmp) (who : AForkName) → IsTree v.tree → (killed v who).tree.forks ≡ without_branch v.tree.forks who }
+    ensures branch { (v : ForkParts nat_cmp) (who : AForkName) → (killed v who).tree.forks ≡ without_branch v.tree.forks who }
+    ensures leaf { (v : ForkParts nat_cmp) (who : AForkName) (f : AFork) → IsTree v.tree → IsLeafBelow v.tree.forks who f → without_inferiors (without v f.name) who ≡ without_inferiors v who }
+    ensures none { (v : ForkParts nat_cmp) (who : AForkName) → HasNoInferior v.tree.forks who → without_inferiors v who ≡ v }
+    ensures last { (v : ForkParts nat_cmp) (who : AForkName) → killed v who ≡ without (without_inferiors v who) who }
 {}
 
 /// Where a fork of a job ends, each fork of that job that waits for one runs again, and every other fork stays as it was.

@@ -1,9 +1,7 @@
 // Forks that wait go on: a fork of their job has ended, a character is there, or the clock has reached their moment.
 ghost use Rattle.std.specs.Prelude.{◌≡◌, ℕ, MatchBool, false};
-ghost use Rattle.std.specs.List.{range_with_len};
-ghost use Rattle.machine_names.specs.declared.names.TheConstants.{MOST_FORKS};
 ghost use Rattle.plain_model.specs.Forks.{fork_in};
-ghost use Rattle.plain_model.specs.Trees.{changed, changed_in, job_awoken, readers_woken, sleepers_awoken, waiters_woken, without_read, without_sleep, without_wait};
+ghost use Rattle.plain_model.specs.Trees.{awoken, changed, job_changed, readers_woken, sleepers_awoken, waiters_woken, without_read, without_sleep, without_wait};
 ghost use Rattle.machine_names.specs.Bounds.{IsTerminal};
 ghost use Rattle.fork_tree.specs.Waking.{NoneSleepsIn, NoneWaits, freed, freed_of, is_by};
 ghost use Rattle.fork_tree.specs.declared.notes.Awaited.{Awaited as AnAwaited};
@@ -99,8 +97,9 @@ impl Tree {
 
     // Who waits for this in a job runs again, in slot order.
     fn wake_all(&mut self, tty: Tty, awaited: Awaited)
-        ensures { self.new ≡ record self.old { forks = changed_in (freed_of awaited) self.old.forks tty (range_with_len 1 MOST_FORKS) } }
+        ensures { self.new ≡ record self.old { forks = job_changed (freed_of awaited) tty self.old.forks } }
     {
+        self.are_trees();
         for slot in 1..=MOST_FORKS {
             self.wake(tty, slot, awaited);
         }
@@ -185,9 +184,8 @@ impl Tree {
     }
 
     // Of a job, who sleeps to a moment that the clock has reached runs again, in slot order.
-    #[tactic(auto, unfolding(plain_model::specs::Trees::job_awoken))]
     fn wake_sleepers_of(&mut self, tty: Tty, clock: u64)
-        ensures { self.new ≡ record self.old { forks = job_awoken clock self.old.forks tty } }
+        ensures { self.new ≡ record self.old { forks = job_changed (awoken clock) tty self.old.forks } }
     {
         self.are_trees();
         if self.may_wait(tty, Awaited::Moment(clock)) {
@@ -204,6 +202,7 @@ impl Tree {
     pub fn wake_sleepers(&mut self, clock: u64)
         ensures { self.new ≡ record self.old { forks = sleepers_awoken clock self.old.forks } }
     {
+        self.are_trees();
         for tty in 0..TERMINALS {
             self.wake_sleepers_of(Tty(tty), clock);
         }

@@ -1,6 +1,6 @@
 //! The commands of a job to the monitor: RUN, CONTINUE, DIRECTORY, DELETE and LOGOUT.
 //! To the machine each leaves the forks, pages and files that its definition leaves; over pages in memory none needs anything first.
-//! Stands on `fork_calls`, which kills forks, on `fork_tree`, on `file_tables`, on `page_contracts` for pages, and on `plain_model` for the definitions.
+//! Stands on `job_forks`, which kills forks, on `fork_tree`, on `file_tables`, on `page_contracts` for pages, and on `plain_model` for the definitions.
 #![tactic(auto)]
 
 mod deleting;

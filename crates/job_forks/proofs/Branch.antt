@@ -1,7 +1,6 @@
 -- A branch is killed, fork by fork, with their maps.
 use Rattle.std.proofs.Common.{◌≡◌, ◌≢◌, ℕ, zero, suc, ◌+◌, ◌-◌, ◌<◌, Bool, true, false, not, ◌&&◌, Option, None, Some, length, refl, sym, ◌∙◌, ap, subst, arith, inl, inr}
 use Rattle.std.specs.Prelude.{is_some}
-use Rattle.std.specs.Option.{option_map, option_map_or}
 use Rattle.std.specs.Ordering.{nat_cmp}
 use Rattle.std.specs.FinMap as map
 use Rattle.std.proofs.lemmas.Bool.{cases_eq}
@@ -12,15 +11,17 @@ use Rattle.machine_names.specs.declared.names.TheConstants.{MOST_FORKS}
 use Rattle.plain_model.specs.declared.fork.Fork.{Fork}
 use Rattle.plain_model.specs.Forks.{ForkMap, forks_by_slot}
 use Rattle.machine_names.specs.Orders.{same_fork}
-use Rattle.plain_model.specs.Inferiors.{is_inferior, last_below}
+use Rattle.plain_model.specs.Inferiors.{is_inferior}
 use Rattle.machine_names.specs.Bounds.{IsTerminal}
 use Rattle.page_contracts.specs.Pages.{PagesMeaning}
 use Rattle.plain_pages.specs.References.{without_fork}
 use Rattle.plain_pages.specs.PlainPages.{NumberedPages}
 use Rattle.plain_model.specs.Trees.{PlainTree, waiters_woken}
-use Rattle.plain_model.specs.ForkCalls.{ForkParts, fork_changed, killed, without, without_below}
+use Rattle.plain_model.specs.ForkCalls.{ForkParts, fork_changed, killed, without_inferiors}
 use Rattle.plain_model.proofs.ForkMaps.{cases_name, get_gone, same_itself, names_same}
+use Rattle.fork_tree.specs.Inferiors.{without}
 use Rattle.fork_tree.specs.Trees.{AreSlotted, IsTree, Lives}
+use Rattle.fork_tree.proofs.Killing.{killed_last}
 use Rattle.fork_tree.proofs.Leaves.{inferior_is}
 use Rattle.fork_tree.proofs.Upward.{ancestor_lives, any_ancestor}
 use Rattle.job_forks.specs.Holding.{Holds, MakesPages, parts}
@@ -34,35 +35,6 @@ below_younger tree is who f lives below =
     let over = ancestor_lives tree is p a.1.0 f a.0 lives a.1.1 in
     let name : a.0.name ≡ who = names_same a.0.name who a.2 in
     omega (arith, over.2, ap (λ (n : ForkName). n.serial) name)
-
--- the name that is told is that of the first to go
-pub told_last : (o : Option Fork) (name : ForkName) → Some name ≡ option_map (λ f. f.name) o → (f : Fork) × (o ≡ Some f) × (f.name ≡ name)
-told_last None name e = absurd (cc e)
-told_last (Some f) name e = (f, refl, sym (let same : name ≡ f.name = cc e in same))
-
-pub told_none : (o : Option Fork) → None ≡ option_map (λ (f : Fork). f.name) o → o ≡ None
-told_none None e = refl
-told_none (Some f) e = absurd (cc e)
-
-module _ (who : ForkName) where
-  -- a round of the kill
-  pub below_step : (n : ℕ) (v : ForkParts nat_cmp) (f : Fork) → last_below v.tree.forks who ≡ Some f → without_below (suc n) who v ≡ without_below n who (without v f.name)
-  unfolding without_below
-  below_step n v f is = ap (λ (o : Option Fork). option_map_or (λ k. without_below n who (without v k.name)) o v) is
-
-  pub below_over : (n : ℕ) (v : ForkParts nat_cmp) → last_below v.tree.forks who ≡ None → without_below n who v ≡ v
-  unfolding without_below
-  below_over zero v is = refl
-  below_over (suc n) v is = ap (λ (o : Option Fork). option_map_or (λ k. without_below n who (without v k.name)) o v) is
-
-  pub below_end : (n : ℕ) (v : ForkParts nat_cmp) → n ≡ 0 → without_below n who v ≡ v
-  unfolding without_below
-  below_end zero v is = refl
-  below_end (suc n) v is = absurd (omega (arith, is))
-
--- one round less
-pub one_less : (r : ℕ) → r < 30 → 30 - r ≡ suc (30 - (r + 1))
-one_less r h = omega arith
 
 -- ---- pages and forks, without one
 
@@ -110,10 +82,10 @@ made_on means t m n old mid new g h = record {
 }
 
 -- the fork itself goes last, and who waits for one goes on
-pub kill_changes : (v : ForkParts nat_cmp) (who : ForkName) (u : ForkParts nat_cmp) (tree : PlainTree) (p : NumberedPages) → without_below MOST_FORKS who v ≡ u → tree ≡ record u.tree { forks = map.remove u.tree.forks who } → p ≡ without_fork u.pages who
+pub kill_changes : (v : ForkParts nat_cmp) (who : ForkName) (u : ForkParts nat_cmp) (tree : PlainTree) (p : NumberedPages) → without_inferiors v who ≡ u → tree ≡ record u.tree { forks = map.remove u.tree.forks who } → p ≡ without_fork u.pages who
     → parts (record tree { forks = waiters_woken tree.forks who.tty }) p ≡ fork_changed (Kill who) v
 unfolding fork_changed
 kill_changes v who u tree p below gone left =
     let k : ForkParts nat_cmp = record { tree = tree; pages = p } in
-    let same : k ≡ killed v who = (λ i. record { tree = gone i; pages = left i }) ∙ ap (λ (w : ForkParts nat_cmp). without w who) (sym below) in
+    let same : k ≡ killed v who = (λ i. record { tree = gone i; pages = left i }) ∙ ap (λ (w : ForkParts nat_cmp). without w who) (sym below) ∙ sym (killed_last v who) in
     ap (λ (w : ForkParts nat_cmp). parts (record w.tree { forks = waiters_woken w.tree.forks who.tty }) w.pages) same

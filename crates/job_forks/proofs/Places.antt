@@ -1,5 +1,5 @@
 -- Forks that keep their places, and how many of them there are.
-use Rattle.std.proofs.Common.{◌≡◌, ◌≢◌, ℕ, ◌+◌, List, [], ◌∷◌, length, true, false, Option, None, Some, refl, sym, ◌∙◌, ap, subst, arith, inl, inr}
+use Rattle.std.proofs.Common.{◌≡◌, ◌≢◌, ℕ, ◌+◌, List, [], ◌∷◌, length, Bool, true, false, cond, ◌==◌, Option, None, Some, refl, sym, ◌∙◌, ap, subst, arith, inl, inr}
 use Rattle.std.specs.Prelude.{is_none, is_some}
 use Rattle.std.specs.List.{range_with_len}
 use Rattle.std.specs.Option.{option_map}
@@ -12,8 +12,9 @@ use Rattle.script_texts.specs.declared.status.ForkStatus.{ForkStatus}
 use Rattle.script_texts.specs.declared.status.ForkStatus.TheVariants.{Run, Wait, Halted, Forced}
 use Rattle.script_texts.specs.declared.status.WaitOn.TheVariants as on
 use Rattle.plain_model.specs.Forks.{ForkMap, fork_in, forks_by_slot}
-use Rattle.plain_model.specs.Trees.{changed, unwaited, without_wait, woken_in, waiters_woken}
-use Rattle.plain_model.proofs.ForkMaps.{AreOwn, cases_name, get_put, get_put_other, get_gone, get_gone_other, slot_tells}
+use Rattle.plain_model.specs.Trees.{all_changed, changed, job_changed, unwaited, without_wait, waiters_woken}
+use Rattle.plain_model.proofs.ChangedForks.{changed_from, get_changed, of_job}
+use Rattle.plain_model.proofs.ForkMaps.{AreOwn, cases_name, get_put, get_put_other, get_gone, get_gone_other}
 use Rattle.fork_tree.specs.Trees.{AreSlotted, IsIn, Lives}
 use Rattle.fork_tree.proofs.Slots.{held_lives, in_found, in_tells}
 use Rattle.job_forks.specs.Holding.{CameFrom, ComeFrom, SamePlaces}
@@ -61,6 +62,16 @@ pub record IsMild (change : Fork → Fork) (k : Fork) : Type 0 where
   pub units : (change k).body.units ≡ k.body.units
   pub within : IsBody k.body → IsBody (change k).body
 
+-- a change that leaves the same fork
+mild_as : (change other : Fork → Fork) (k : Fork) → change k ≡ other k → IsMild other k → IsMild change k
+mild_as change other k same m = record {
+  name = ap (λ (f : Fork). f.name) same ∙ m.name;
+  slot = ap (λ (f : Fork). f.slot) same ∙ m.slot;
+  superior = ap (λ (f : Fork). f.superior) same ∙ m.superior;
+  units = ap (λ (f : Fork). f.body.units) same ∙ m.units;
+  within = λ b. subst (λ (f : Fork). IsBody f.body) (sym same) (m.within b);
+}
+
 module _ (forks : ForkMap) (own : AreOwn forks) (change : Fork → Fork) where
   put_keeps : (k : Fork) → map.get forks k.name ≡ Some k → IsMild change k → Keep forks (map.insert forks k.name (change k))
   put_keeps k there mild = record { own = owns; same = places; come = comes }
@@ -95,6 +106,36 @@ module _ (forks : ForkMap) (own : AreOwn forks) (change : Fork → Fork) where
   changed_keeps None told = keep_itself forks own
   changed_keeps (Some k) told = let t = told k refl in put_keeps k t.0 t.1
 
+-- ---- all forks changed, or those of a job
+
+pub all_keep : (change : Fork → Fork) → ((k : Fork) → IsMild change k) → (forks : ForkMap) → AreOwn forks → Keep forks (all_changed change forks)
+all_keep change mild forks own = record { own = owns; same = λ q. ap (option_map (λ (f : Fork). f.slot)) (get_changed change forks q) ∙ places (map.get forks q); come = comes }
+  where
+    places : (o : Option Fork) → option_map (λ (f : Fork). f.slot) (option_map change o) ≡ option_map (λ (f : Fork). f.slot) o
+    places None = refl
+    places (Some f) = ap Some (mild f).slot
+
+    owns : AreOwn (all_changed change forks)
+    owns q f is = let was = changed_from change forks q f is in ap (λ (x : Fork). x.name) (sym was.2) ∙ (mild was.0).name ∙ own q was.0 was.1
+
+    comes : ComeFrom forks (all_changed change forks)
+    comes f is =
+        let was = changed_from change forks f.name f is in
+        let m = mild was.0 in
+        let there = ap (map.get forks) (own f.name was.0 was.1) ∙ was.1 in
+        let came : CameFrom forks (change was.0) = record { before = was.0; lived = there; name = m.name; slot = m.slot; superior = m.superior; units = m.units; within = m.within } in
+        subst (CameFrom forks) was.2 came
+
+pub job_keeps : (change : Fork → Fork) → ((k : Fork) → IsMild change k) → (t : Tty) (forks : ForkMap) → AreOwn forks → Keep forks (job_changed change t forks)
+job_keeps change mild t forks own = all_keep (of_job change t) each forks own
+  where
+    each : (k : Fork) → IsMild (of_job change t) k
+    each k = by (k.name.tty.0 == t.0) refl
+      where
+        by : (b : Bool) → (k.name.tty.0 == t.0) ≡ b → IsMild (of_job change t) k
+        by true here = let same : of_job change t k ≡ change k = ap (λ b. cond b (change k) k) here in mild_as (of_job change t) change k same (mild k)
+        by false other = let same : of_job change t k ≡ k = ap (λ b. cond b (change k) k) other in mild_as (of_job change t) (λ f. f) k same (record { name = refl; slot = refl; superior = refl; units = refl; within = λ b. b })
+
 -- ---- who no longer waits
 
 wait_fits : (s : ForkStatus) → FitsForced s → FitsForced (without_wait s)
@@ -114,15 +155,9 @@ unwaited_mild k = record {
   within = λ b. record { status = wait_fits k.body.status b.status; pc = b.pc; accumulators = b.accumulators };
 }
 
-woken_keeps : (t : Tty) (slots : List ℕ) (forks : ForkMap) → AreOwn forks → Keep forks (woken_in forks t slots)
-woken_keeps t [] forks own = keep_itself forks own
-woken_keeps t (slot ∷ slots) forks own =
-    let one = changed_keeps forks own unwaited (fork_in forks t slot) (λ k e. ((slot_tells forks own t slot k e).0, unwaited_mild k)) in
-    keep_on forks (changed forks unwaited (fork_in forks t slot)) (woken_in forks t (slot ∷ slots)) one (woken_keeps t slots (changed forks unwaited (fork_in forks t slot)) one.own)
-
 pub waiters_keep : (forks : ForkMap) → AreOwn forks → (t : Tty) → Keep forks (waiters_woken forks t)
 unfolding waiters_woken
-waiters_keep forks own t = woken_keeps t (range_with_len 1 MOST_FORKS) forks own
+waiters_keep forks own t = job_keeps unwaited unwaited_mild t forks own
 
 -- ---- how many there are
 

@@ -1,9 +1,8 @@
 // Forks are killed, with all below them.
 ghost use Rattle.std.specs.Prelude.{◌≡◌, ◌≤◌, IfErr, IsOk, IsSome, None, true};
 ghost use Rattle.std.specs.FinMap as map;
-ghost use Rattle.plain_model.specs.ForkCalls.{without_below};
+ghost use Rattle.plain_model.specs.ForkCalls.{without_inferiors};
 ghost use Rattle.plain_model.specs.Forks.{OthersStay};
-ghost use Rattle.machine_names.specs.declared.names.TheConstants.{MOST_FORKS};
 ghost use Rattle.machine_names.specs.declared.names.ForkName.{ForkName as AForkName};
 ghost use Rattle.machine_names.specs.declared.names.Tty.{Tty as ATty};
 ghost use Rattle.page_contracts.specs.DrumWords.{DrumWords};
@@ -63,7 +62,7 @@ pub fn kill_below<P: Pages>(who: ForkName, tree: &mut Tree, pages: &mut P)
     requires holds { Holds P.means pages.old tree.old.forks }
     requires maps { AreMapsHere (P.means.scene pages.old) tree.old.forks who }
     ensures told { (d : DrumWords) → P.means.fits pages.old d
-        → P.means.fits pages.new d × (without_below MOST_FORKS who (parts tree.old (P.means.plain pages.old d)) ≡ parts tree.new (P.means.plain pages.new d)) }
+        → P.means.fits pages.new d × (without_inferiors (parts tree.old (P.means.plain pages.old d)) who ≡ parts tree.new (P.means.plain pages.new d)) }
     ensures holds { Holds P.means pages.new tree.new.forks }
     ensures maps { (P.means.scene pages.new).map_away who ≡ None }
     ensures kept { ComeFrom tree.old.forks tree.new.forks }

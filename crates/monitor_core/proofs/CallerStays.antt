@@ -1,8 +1,8 @@
 -- A fork that makes a call which changes forks has its place among those that the turn leaves.
 use Rattle.std.proofs.Common.{◌≡◌, ℕ, Bool, true, false, ◌||◌, List, [], ◌∷◌, Option, None, Some, refl, sym, ◌∙◌, ap, subst, arith, inl, inr, Ordering}
 use Rattle.std.specs.Prelude.{MatchBool}
-use Rattle.std.specs.List.{list_any, range_with_len}
-use Rattle.std.specs.Option.{option_map_or}
+use Rattle.std.specs.List.{list_any}
+use Rattle.std.specs.Option.{option_map, option_map_or}
 use Rattle.std.specs.FinMap as map
 use Rattle.plain_model.specs.declared.call.End.{End}
 use Rattle.plain_model.specs.declared.call.End.TheVariants.{Done, Waits, Halts, Refused, Failed, Trap}
@@ -11,14 +11,13 @@ use Rattle.plain_model.specs.declared.call.ForkChange.TheVariants.{Nothing, Make
 use Rattle.plain_units.specs.declared.channel.TheConstants.{INFERIOR_ENDED}
 use Rattle.plain_model.specs.declared.fork.Fork.{Fork}
 use Rattle.script_texts.specs.declared.status.ForkStatus.TheVariants.{Halted}
-use Rattle.machine_names.specs.declared.names.TheConstants.{MOST_FORKS}
 use Rattle.machine_names.specs.declared.names.ForkName.{ForkName}
 use Rattle.machine_names.specs.declared.names.Tty.{Tty}
 use Rattle.plain_model.specs.Calls.{no_files, parts_behind, turn_on, Asked}
 use Rattle.plain_model.specs.Forks.{ForkMap, fork_in, superior_of, with_status}
 use Rattle.machine_names.specs.Orders.{same_fork}
 use Rattle.plain_model.specs.ForkCalls.{ForkParts, fork_call, fork_changed, killed, with_halted}
-use Rattle.plain_model.specs.Inferiors.{is_inferior}
+use Rattle.plain_model.specs.Inferiors.{is_in_branch, is_inferior}
 use Rattle.fork_tree.specs.Inferiors.{without_branch}
 use Rattle.plain_model.specs.FileCalls.{Jobs}
 use Rattle.plain_model.specs.InterruptCalls.{InterruptParts, interrupt_changed}
@@ -30,12 +29,14 @@ use Rattle.plain_model.specs.declared.call.SleepChange.TheVariants.{Nothing as U
 use Rattle.plain_model.specs.ClockCalls.{clock_changed, without_moment}
 use Rattle.plain_model.specs.declared.call.InterruptChange.TheVariants.{Become as Set, Post, Assign, Unassign}
 use Rattle.plain_pages.specs.PlainPages.{PlainPages}
-use Rattle.plain_model.specs.Trees.{PlainTree, changed, end_told, unwaited, waiters_woken, with_body, with_mark, woken_in}
+use Rattle.plain_model.specs.Trees.{PlainTree, changed, end_told, unwaited, waiters_woken, with_body, with_mark}
+use Rattle.plain_model.proofs.ChangedForks.{get_changed, of_job, of_job_holds}
+use Rattle.plain_model.proofs.OtherJobs.{waiters_job}
 use Rattle.plain_model.proofs.ForkEnds.{Anyhow, FitsChange, FitsEnd, call_names}
 use Rattle.plain_model.proofs.ForkMaps.{AreOwn, cases_name, get_put, get_put_other, held_there, names_same, slot_tells, superior_tells}
 use Rattle.plain_model.proofs.Posted.{posted_same}
 use Rattle.fork_tree.specs.Trees.{IsTree, Lives}
-use Rattle.fork_tree.proofs.Branches.{goes, gone_or_left}
+use Rattle.fork_tree.proofs.Branches.{gone_or_left}
 use Rattle.fork_tree.proofs.Kept.{name_unused}
 use Rattle.fork_tree.proofs.Killing.{killed_branch}
 use Rattle.fork_tree.proofs.Leaves.{inferior_lives}
@@ -73,15 +74,14 @@ module _ (f : Fork) where
       subst (λ (n : ForkName). StandsIn (map.insert m n (change k))) named
       (put_in m s (change k) (λ e. (keeps k).1 ∙ ap (λ (x : Fork). x.superior) (is_it m s k (there k refl) (e ∙ named)) ∙ s.superior))
 
-  woken_stands : (t : Tty) (slots : List ℕ) (m : ForkMap) → StandsIn m → StandsIn (woken_in m t slots)
-  woken_stands t [] m s = s
-  woken_stands t (slot ∷ slots) m s =
-      woken_stands t slots (changed m unwaited (fork_in m t slot))
-      (changed_in m s unwaited (λ k. (refl, refl)) (fork_in m t slot) (λ k e. let at = slot_tells m s.own t slot k e in at.0))
-
   waiters_stand : (m : ForkMap) → StandsIn m → (t : Tty) → StandsIn (waiters_woken m t)
   unfolding waiters_woken
-  waiters_stand m s t = woken_stands t (range_with_len 1 MOST_FORKS) m s
+  waiters_stand m s t = record {
+    own = (waiters_job m s.own t).own;
+    fork = of_job unwaited t s.fork;
+    there = get_changed (of_job unwaited t) m f.name ∙ ap (option_map (of_job unwaited t)) s.there;
+    superior = of_job_holds (λ (x y : Fork). y.superior ≡ x.superior) (λ x. refl) unwaited (λ x. refl) t s.fork ∙ s.superior;
+  }
 
   told_stands : (m : ForkMap) → StandsIn m → (g : Fork) → StandsIn (end_told m g)
   told_stands m s g =
@@ -120,7 +120,7 @@ module _ (f : Fork) where
     not_below k at below same = let young = below_younger tree is f.name k at below in omega (arith, young, ap (λ (x : Fork). x.name.serial) same)
 
     -- nor does it go with one
-    stays_with : (k : Fork) → map.get tree.forks k.name ≡ Some k → is_inferior tree.forks f.name k.name ≡ true → goes tree.forks k.name f.name ≡ false
+    stays_with : (k : Fork) → map.get tree.forks k.name ≡ Some k → is_inferior tree.forks f.name k.name ≡ true → is_in_branch tree.forks k.name f.name ≡ false
     stays_with k at below = by (same_fork f.name k.name) refl (is_inferior tree.forks k.name f.name) refl
       where
         by : (b : Bool) → same_fork f.name k.name ≡ b → (c : Bool) → is_inferior tree.forks k.name f.name ≡ c → (same_fork f.name k.name || is_inferior tree.forks k.name f.name) ≡ false
@@ -133,7 +133,7 @@ module _ (f : Fork) where
 
     branch_stands : (k : Fork) → map.get tree.forks k.name ≡ Some k → is_inferior tree.forks f.name k.name ≡ true → StandsIn (without_branch tree.forks k.name)
     branch_stands k at below = record {
-      own = λ q g e. owned q g e (goes tree.forks k.name q) (gone_or_left tree.forks k.name q);
+      own = λ q g e. owned q g e (is_in_branch tree.forks k.name q) (gone_or_left tree.forks k.name q);
       fork = f;
       there = subst (λ b. MatchBool b (map.get (without_branch tree.forks k.name) f.name ≡ None) (map.get (without_branch tree.forks k.name) f.name ≡ map.get tree.forks f.name)) (stays_with k at below) (gone_or_left tree.forks k.name f.name) ∙ lives;
       superior = refl;
@@ -157,7 +157,7 @@ module _ (f : Fork) where
       killed_stands p name below =
           let k = inferior_lives tree is f.name name below in
           let named = is.slotted.own name k.0 k.1 in
-          subst StandsIn (sym (killed_branch name (parts_so p) is))
+          subst StandsIn (sym (killed_branch (parts_so p) name))
           (subst (λ (n : ForkName). StandsIn (without_branch tree.forks n)) named
           (branch_stands k.0 (held_there tree.forks is.slotted.own name k.0 k.1) (ap (is_inferior tree.forks f.name) named ∙ below)))
 

@@ -13,10 +13,10 @@ use Rattle.script_texts.specs.declared.status.ForkStatus.TheVariants.{Run, Wait,
 use Rattle.plain_model.specs.Forks.{ForkMap, fork_in, with_fork}
 use Rattle.plain_model.specs.Commands.{continued, go_on, in_program, is_forced, prompted, restarted, resumed, start_again, started, told, with_job_at, without_halt}
 use Rattle.plain_model.specs.State.{PlainJob, PlainState}
-use Rattle.plain_model.specs.Trees.{PlainTree, changed, changed_in, readers_woken, unread, with_changed_of, with_mark, without_read}
+use Rattle.plain_model.specs.Trees.{PlainTree, changed, readers_woken, unread, with_changed_of, with_mark, without_read}
 use Rattle.plain_model.specs.Unit.{Effect}
 use Rattle.file_tables.specs.Tables.{files_of, open_of}
-use Rattle.job_forks.proofs.Places.{IsMild, Keep, came_itself, changed_keeps, keep_itself, keep_on}
+use Rattle.job_forks.proofs.Places.{IsMild, Keep, came_itself, changed_keeps, job_keeps, keep_itself}
 use Rattle.fork_tree.specs.Trees.{IsTree}
 use Rattle.plain_model.proofs.ForkMaps.{AreOwn, slot_tells}
 use Rattle.monitor_core.proofs.HasDone.{change_keeps, has_left}
@@ -83,15 +83,9 @@ read_fits (Wait (on.Sleep moment)) h = h
 unread_mild : (f : Fork) → IsMild unread f
 unread_mild f = record { name = refl; slot = refl; superior = refl; units = refl; within = λ b. record { status = read_fits f.body.status b.status; pc = b.pc; accumulators = b.accumulators } }
 
-read_in : (t : Tty) (slots : List ℕ) (forks : ForkMap) → AreOwn forks → Keep forks (changed_in unread forks t slots)
-read_in t [] forks own = keep_itself forks own
-read_in t (slot ∷ slots) forks own =
-    let one = changed_keeps forks own unread (fork_in forks t slot) (λ k e. ((slot_tells forks own t slot k e).0, unread_mild k)) in
-    keep_on forks (changed forks unread (fork_in forks t slot)) (changed_in unread forks t (slot ∷ slots)) one (read_in t slots (changed forks unread (fork_in forks t slot)) one.own)
-
 pub readers_keep : (forks : ForkMap) → AreOwn forks → (t : Tty) → Keep forks (readers_woken forks t)
 unfolding readers_woken
-readers_keep forks own t = read_in t (range_with_len 1 MOST_FORKS) forks own
+readers_keep forks own t = job_keeps unread unread_mild t forks own
 
 -- ---- START and CONTINUE
 

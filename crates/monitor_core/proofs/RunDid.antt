@@ -42,7 +42,8 @@ use Rattle.step_shown.specs.Echoes.{told_items}
 use Rattle.monitor_core.specs.Effects.{Has, HasJobAt, job_in}
 use Rattle.monitor_calls.specs.Jobs.{job_at, jobs_of, plain_job}
 use Rattle.monitor_core.specs.Systems.{FitsPages, named, state_of}
-use Rattle.monitor_core.proofs.CommandPages.{killed_leaves, killed_same, run_leaves, run_same}
+use Rattle.monitor_core.proofs.CommandPages.{run_leaves, run_same}
+use Rattle.plain_model.proofs.ForkTurns.{killed_leaves, killed_refiled}
 use Rattle.monitor_core.proofs.FileDid.{file_there}
 use Rattle.monitor_core.proofs.HasDone.{has_so}
 use Rattle.monitor_calls.proofs.Lookups.{job_found, job_missing, jobs_put}
@@ -180,7 +181,7 @@ module _ {P : Type 0} {b : _} (m m' : System P b) (t : Tty) (j : Job) (at : HasJ
       ∙ jobs_gone (open_of m.files) (open_of m'.files) m.typed.items m.jobs.items t.0 (λ u ne. ap (λ o. open_at o u) opened ∙ get_or-set_other (open_of m.files) t.0 u fin.empty fin.empty ne) (low_job m m' t j at) in
       let mine : state_of m' d ≡ logged_out old t (job_in m t j) =
       (λ i. record old { pages = same_pages i; files = files.files i; jobs = now i; forks = (went i).tree.forks; fork_serials = (went i).tree.serials; clock = (panel i).clock; trace = (panel i).trace })
-      ∙ ap (λ (w : ForkParts name_cmp). record (with_forks_and_pages old w) { jobs = fin.remove old.jobs t.0 }) (sym (killed_same name_cmp (pages_named m.files.dir p.files) v j.top (alike_named m.files.dir p m.files.sound.numbers f.filed))) in
+      ∙ ap (λ (w : ForkParts name_cmp). record (with_forks_and_pages old w) { jobs = fin.remove old.jobs t.0 }) (sym (killed_refiled name_cmp (pages_named m.files.dir p.files) v j.top (alike_named m.files.dir p m.files.sound.numbers f.filed))) in
       λ i. record { state = sym mine i; items = [] }
 
   pub has_logged_out : Has m m' (λ s. record { state = logged_out s t (job_in m t j); items = [] }) (told_items t Nothing)

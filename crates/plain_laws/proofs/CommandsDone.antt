@@ -31,14 +31,14 @@ use Rattle.plain_model.specs.declared.fork.Fork.{Fork}
 use Rattle.plain_model.specs.Commands.{begun_at, commanded, forks_and_pages, in_program, logged_out, program_access, program_entry, prompted, running, start_address, told, with_program}
 use Rattle.plain_model.specs.FileCalls.{times_held}
 use Rattle.plain_model.specs.FileEvents.{page_named}
-use Rattle.plain_model.specs.Inferiors.{is_inferior}
+use Rattle.plain_model.specs.Inferiors.{is_in_branch, is_inferior}
 use Rattle.plain_model.specs.InterruptCalls.{living_codes}
 use Rattle.plain_model.specs.State.{PlainState, PlainJob}
 use Rattle.plain_model.specs.Trees.{changed, tree_of}
 use Rattle.plain_model.specs.TypeEvents.{typed_all, typed_at, typed_one}
 use Rattle.plain_model.specs.Unit.{Effect, printed}
 use Rattle.plain_model.proofs.ForkMaps.{cases_name, get_put as fork_put, get_put_other as fork_other}
-use Rattle.fork_tree.proofs.Branches.{goes, left_of}
+use Rattle.fork_tree.proofs.Branches.{left_of}
 use Rattle.fork_tree.proofs.Killing.{killed_branch}
 use Rattle.fork_tree.proofs.Leaves.{inferior_lives, inferior_over}
 use Rattle.fork_tree.proofs.Slots.{empty_of, held_lives, names_same, some_of}
@@ -121,7 +121,7 @@ module _ (s : PlainState) (t : Tty) (j : PlainJob) (name : List ℕ) (is : IsCom
       bare = alone (before s t j) was t (left s t j) (left_there s t j)
 
       fewer : AreFewer s.pages bare.pages
-      fewer = below_fewer MOST_FORKS j.top (forks_and_pages (before s t j)) w.pages
+      fewer = below_fewer j.top (forks_and_pages (before s t j)) w.pages
 
       program : HasProgram j.top name SPACE_PAGES bare.pages (with_program SPACE_PAGES bare.pages j.top name)
       program = has_program (before s t j) was t (left s t j) (left_there s t j) name address
@@ -133,7 +133,7 @@ module _ (s : PlainState) (t : Tty) (j : PlainJob) (name : List ℕ) (is : IsCom
       only g there job = only_one (before s t j) was t (left s t j) (left_there s t j) g there job
 
       top_is : top.0 ≡ f
-      top_is = let both : Some top.0 ≡ Some f = sym (below_forks MOST_FORKS j.top (forks_and_pages (before s t j)) j.top top.0 top.1) ∙ lives in cc both
+      top_is = let both : Some top.0 ≡ Some f = sym (below_forks j.top (forks_and_pages (before s t j)) j.top top.0 top.1) ∙ lives in cc both
 
       named : f.name ≡ j.top
       named = w.tree.slotted.own j.top f lives
@@ -214,7 +214,7 @@ module _ (s : PlainState) (t : Tty) (j : PlainJob) (is : IsCommand s t j command
     no_map f job = empty_of (map.get gone.pages.maps f) (sym (left_whole.forks f) ∙ no_fork f job)
 
     -- a fork of another job does not go with the top fork
-    stays : (f : ForkName) → f.tty.0 ≢ t.0 → goes s.forks j.top f ≡ false
+    stays : (f : ForkName) → f.tty.0 ≢ t.0 → is_in_branch s.forks j.top f ≡ false
     stays f other = elim (cases_Bool (same_fork f j.top)) [
       | inl same ↦ absurd (other (ap (λ (n : ForkName). n.tty.0) (names_same f j.top same) ∙ w.own_tops t.0 j is.job))
       | inr apart ↦ ap (λ b. b || is_inferior s.forks j.top f) apart ∙ above
@@ -240,7 +240,7 @@ module _ (s : PlainState) (t : Tty) (j : PlainJob) (is : IsCommand s t j command
         | inr e ↦ inr e
       ];
       jobs = λ u other. get_gone_other nat_cmp_total nat_cmp-IsAntisymmetric (before s t j).jobs t.0 u other ∙ get_put_other nat_cmp_total nat_cmp-IsAntisymmetric s.jobs t.0 u (left s t j) other;
-      others = λ f other. ap (λ m. map.get m f) (killed_branch j.top (forks_and_pages (before s t j)) w.tree) ∙ left_of s.forks j.top f ∙ ap (λ b. cond (not b) (map.get s.forks f) None) (stays f other);
+      others = λ f other. ap (λ m. map.get m f) (killed_branch (forks_and_pages (before s t j)) j.top) ∙ left_of s.forks j.top f ∙ ap (λ b. cond (not b) (map.get s.forks f) None) (stays f other);
       files = refl;
       filed = fewer_left.files;
       kept = λ at. page_kept s.pages gone.pages fewer_left.files at (λ n filed. filed_kept s.pages gone.pages fewer_left.whole fewer_left.objects at n (ap (λ m. map.get m at) fewer_left.files ∙ filed));

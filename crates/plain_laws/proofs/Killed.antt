@@ -1,33 +1,54 @@
 -- What is left of pages where a fork is killed with all below it.
-use Rattle.std.proofs.Common.{◌≡◌, ℕ, zero, suc, ◌-◌, ◌≤◌, Bool, true, false, cond, Option, None, Some, refl, sym, ◌∙◌, ap, subst, arith, [], Ordering, inl, inr}
-use Rattle.std.specs.Prelude.{nat_lt}
-use Rattle.std.specs.List.{filter_map}
-use Rattle.std.specs.Option.{option_map_or}
+use Rattle.std.proofs.Common.{◌≡◌, ℕ, ◌≤◌, ◌||◌, Bool, true, false, cond, not, List, [], ◌∷◌, length, None, Some, refl, sym, ◌∙◌, ap, subst, arith, Ordering}
+use Rattle.std.specs.Prelude.{◌==◌, is_some, nat_lt}
+use Rattle.std.specs.Cmp.{IsTotalOrder}
+use Rattle.std.specs.List.{sum_by}
 use Rattle.std.specs.FinMap as map
 use Rattle.std.proofs.lemmas.Bool.Decides.{nat_tests}
+use Rattle.std.proofs.lemmas.List.{length-map}
+use Rattle.std.proofs.lemmas.List.Sums.{sum_by-cons}
 use Rattle.plain_model.specs.declared.call.ForkChange.TheVariants.{Kill}
-use Rattle.machine_names.specs.declared.names.TheConstants.{MOST_FORKS}
 use Rattle.machine_names.specs.declared.names.ForkName.{ForkName}
 use Rattle.machine_names.specs.declared.names.PageName.{PageName}
+use Rattle.machine_names.specs.Orders.{fork_cmp, page_cmp}
+use Rattle.machine_names.proofs.OrderLemmas.{fork_cmp_apart, fork_cmp_total, page_cmp_apart, page_cmp_total}
 use Rattle.plain_model.specs.declared.fork.Fork.{Fork}
 use Rattle.plain_pages.specs.PlainPages.{PlainPages, Map, Maps}
-use Rattle.plain_pages.specs.Room.{page_in, uses}
-use Rattle.plain_pages.specs.References.{drop_all_unnamed, without_fork}
-use Rattle.plain_model.specs.Inferiors.{last_below}
+use Rattle.plain_pages.specs.Room.{uses}
 use Rattle.plain_pages.specs.WholePages.{AreWhole}
-use Rattle.plain_model.specs.ForkCalls.{ForkParts, killed, without, without_below, fork_changed}
-use Rattle.plain_laws.specs.ForkLaws.{AreLeft}
-use Rattle.plain_model.proofs.ForkMaps.{cases_name, get_gone, get_gone_other, gone_itself}
-use Rattle.machine_names.proofs.OrderLemmas.{fork_cmp_total}
+use Rattle.plain_pages.proofs.Counts.{values_split}
+use Rattle.plain_pages.proofs.Kept.{AreKept, kept_whole, unnamed_gone}
 use Rattle.plain_pages.proofs.Whole.{live_whole}
-use Rattle.plain_pages.proofs.Kept.{drop_all_len, fork_kept, fork_maps, fork_whole, unnamed_gone, uses_fork}
+use Rattle.plain_model.specs.Inferiors.{is_in_branch, is_inferior}
+use Rattle.plain_model.specs.ForkCalls.{ForkParts, fork_changed, killed, without_inferiors, without_maps}
+use Rattle.plain_model.proofs.MapsGone.{get_left, gone_leaves, gone_uses, gone_words, left_uses, maps_left, stays}
+use Rattle.fork_tree.proofs.Slots.{some_of}
+use Rattle.plain_laws.specs.ForkLaws.{AreLeft}
 
-len_gone : (m : Maps) (f : ForkName) → map.len (map.remove m f) ≤ map.len m
-len_gone m f = by (map.contains_key m f) (map.len-remove fork_cmp_total m f)
+-- what is left was there
+pub left_was : {X : Type 0} (m : map.FinMap fork_cmp X) (goes : ForkName → Bool) (q : ForkName) (x : X) → map.get (map.retain_keys m (λ f. not (goes f))) q ≡ Some x → map.get m q ≡ Some x
+left_was {X} m goes q x is = by (goes q) (sym (get_left m goes q) ∙ is)
   where
-    by : (b : Bool) → map.len (map.remove m f) ≡ cond b (map.len m - 1) (map.len m) → map.len (map.remove m f) ≤ map.len m
-    by true is = omega (arith, is)
-    by false is = omega (arith, is)
+    by : (b : Bool) → cond (not b) (map.get m q) None ≡ Some x → map.get m q ≡ Some x
+    by true h = absurd (cc h)
+    by false h = h
+
+-- and is not more
+ones : {X : Type 0} (xs : List X) → sum_by (λ (x : X). 1) xs ≡ length xs
+ones [] = refl
+ones {X} (x ∷ xs) = omega (arith, sum_by-cons (λ (y : X). 1) x xs, ones xs)
+
+fewer_keys : {K X : Type 0} {R : K → K → Ordering} → IsTotalOrder R → map.IsAntisymmetric R → (m : map.FinMap R X) (p : K → Bool) → map.len (map.retain_keys m p) ≤ map.len m
+fewer_keys {K} {X} {R} o same m p = omega (arith, values_split R (λ (x : X). 1) o same m p, counted (map.retain_keys m p), counted m)
+  where
+    counted : (n : map.FinMap R X) → sum_by (λ (x : X). 1) (map.values n) ≡ map.len n
+    counted n = ones (map.values n) ∙ length-map (map.entries n) (λ e. e.1) ∙ sym (map.len-entries n)
+
+at_least : (j k : ℕ) → nat_lt 0 j ≡ true → j ≤ k → nat_lt 0 k ≡ true
+at_least j k h le = grind (arith, nat_tests)
+
+or_zero : (k : ℕ) → (k == 0) ≡ true → nat_lt 0 k ≡ false
+or_zero k h = grind (arith, nat_tests)
 
 module _ {K : Type 0} {file_cmp : K → K → Ordering} where
   -- fewer pages, and those that are named as they were, as they are by the same files
@@ -40,100 +61,66 @@ module _ {K : Type 0} {file_cmp : K → K → Ordering} where
     pub fewer_pages : map.len q.objects ≤ map.len p.objects
     pub fewer_forks : map.len q.maps ≤ map.len p.maps
 
-  all_there : (p : PlainPages file_cmp) → AreWhole p → AreFewer p p
-  all_there p w = record { whole = w; names = λ n. omega arith; objects = λ n. by n (nat_lt 0 (uses p n)) refl; maps = λ f m h. h; files = refl; fewer_pages = omega arith; fewer_forks = omega arith }
-    where
-      by : (n : PageName) (b : Bool) → nat_lt 0 (uses p n) ≡ b → map.get p.objects n ≡ cond b (map.get p.objects n) None
-      by n true is = refl
-      by n false is = unnamed_gone p w n is
+  gone_objects : (p : PlainPages file_cmp) (goes : ForkName → Bool) → (without_maps p goes).objects ≡ map.retain_keys p.objects (λ n. stays (uses p n) (uses (maps_left p goes) n))
+  unfolding without_maps
+  gone_objects p goes = refl
 
-  then_fewer : (p q r : PlainPages file_cmp) → AreFewer p q → AreFewer q r → AreFewer p r
-  then_fewer p q r a b = record {
-    whole = b.whole;
-    names = λ n. omega (arith, a.names n, b.names n);
-    objects = λ n. b.objects n ∙ ap (λ o. cond (nat_lt 0 (uses r n)) o None) (a.objects n) ∙ both (uses r n) (uses q n) (map.get p.objects n) (b.names n);
-    maps = λ f m h. a.maps f m (b.maps f m h);
-    files = b.files ∙ a.files;
-    fewer_pages = omega (arith, a.fewer_pages, b.fewer_pages);
-    fewer_forks = omega (arith, a.fewer_forks, b.fewer_forks);
+  -- without the maps of some forks
+  gone_fewer : (p : PlainPages file_cmp) → AreWhole p → (goes : ForkName → Bool) → AreFewer p (without_maps p goes)
+  gone_fewer p w goes = record {
+    whole = kept_whole p left w kept (λ f m h. w.entries f m (were f m h)) keys (λ n named. at_least (uses left n) (uses p n) named (few n));
+    names = few;
+    objects = kept.objects;
+    maps = were;
+    files = kept.files;
+    fewer_pages = subst (λ (m : map.FinMap page_cmp (List ℕ)). map.len m ≤ map.len p.objects) (sym (gone_objects p goes)) (fewer_keys page_cmp_total page_cmp_apart p.objects (λ n. stays (uses p n) (uses (maps_left p goes) n)));
+    fewer_forks = subst (λ (m : Maps). map.len m ≤ map.len p.maps) (sym maps) (fewer_keys fork_cmp_total fork_cmp_apart p.maps (λ f. not (goes f)));
   }
     where
-      both : {X : Type 0} (j k : ℕ) (o : Option X) → j ≤ k → cond (nat_lt 0 j) (cond (nat_lt 0 k) o None) None ≡ cond (nat_lt 0 j) o None
-      both j k o le = by (nat_lt 0 j) (nat_lt 0 k) refl refl
+      left : PlainPages file_cmp
+      left = without_maps p goes
+
+      maps : left.maps ≡ map.retain_keys p.maps (λ f. not (goes f))
+      maps = ap (λ (q : PlainPages file_cmp). q.maps) (gone_leaves p goes)
+
+      few : (n : PageName) → uses left n ≤ uses p n
+      few n = omega (arith, gone_uses p goes n, left_uses p goes n)
+
+      were : (f : ForkName) (m : Map) → map.get left.maps f ≡ Some m → map.get p.maps f ≡ Some m
+      were f m h = left_was p.maps goes f m (ap (λ (x : Maps). map.get x f) (sym maps) ∙ h)
+
+      keys : (f : ForkName) → map.contains_key left.maps f ≡ true → map.contains_key p.maps f ≡ true
+      keys f there = let m = some_of (map.get left.maps f) there in ap is_some (were f m.0 m.1)
+
+      kept : AreKept p left
+      kept = record {
+        objects = λ n. gone_words p goes n ∙ by n (uses p n == 0) (nat_lt 0 (uses (maps_left p goes) n)) refl refl ∙ ap (λ k. cond (nat_lt 0 k) (map.get p.objects n) None) (sym (gone_uses p goes n));
+        files = ap (λ (q : PlainPages file_cmp). q.files) (gone_leaves p goes);
+        page_serials = ap (λ (q : PlainPages file_cmp). q.page_serials) (gone_leaves p goes);
+        console_serial = ap (λ (q : PlainPages file_cmp). q.console_serial) (gone_leaves p goes);
+        limit = ap (λ (q : PlainPages file_cmp). q.limit) (gone_leaves p goes);
+      }
         where
-          by : (b c : Bool) → nat_lt 0 j ≡ b → nat_lt 0 k ≡ c → cond b (cond c o None) None ≡ cond b o None
-          by false c x y = refl
-          by true true x y = refl
-          by true false x y = absurd (let no : true ≡ false = grind (arith, nat_tests, x, y, le) in cc no)
+          by : (n : PageName) (a b : Bool) → (uses p n == 0) ≡ a → nat_lt 0 (uses (maps_left p goes) n) ≡ b → cond (a || b) (map.get p.objects n) None ≡ cond (nat_lt 0 (uses (maps_left p goes) n)) (map.get p.objects n) None
+          by n true true x y = ap (λ b. cond b (map.get p.objects n) None) (sym y)
+          by n false true x y = ap (λ b. cond b (map.get p.objects n) None) (sym y)
+          by n true false x y = unnamed_gone p w n (or_zero (uses p n) x) ∙ ap (λ b. cond b (map.get p.objects n) None) (sym y)
+          by n false false x y = ap (λ b. cond b (map.get p.objects n) None) (sym y)
 
-  -- a fork less
-  fork_fewer : (p : PlainPages file_cmp) → AreWhole p → (f : ForkName) → AreFewer p (without_fork p f)
-  unfolding without_fork
-  fork_fewer p w f = by (map.get p.maps f) refl
-    where
-      removed : PlainPages file_cmp
-      removed = record p { maps = map.remove p.maps f }
+  -- without a fork's inferiors
+  pub below_fewer : (f : ForkName) (v : ForkParts file_cmp) → AreWhole v.pages → AreFewer v.pages (without_inferiors v f).pages
+  unfolding without_inferiors
+  below_fewer f v w = gone_fewer v.pages w (is_inferior v.tree.forks f)
 
-      none_there : map.get p.maps f ≡ None → p ≡ without_fork p f
-      none_there none = sym (ap (λ (o : Option Map). drop_all_unnamed (record p { maps = map.remove p.maps f }) (option_map_or (filter_map page_in) o [])) none ∙ ap (λ (m : Maps). record p { maps = m }) (gone_itself p.maps f none))
-
-      left : (m : Map) → map.get p.maps f ≡ Some m → (k : ForkName) (n : Map) → map.get (without_fork p f).maps k ≡ Some n → map.get p.maps k ≡ Some n
-      left m there k n h =
-          let gone = ap (λ (x : Maps). map.get x k) (fork_maps p w f m there) in
-          elim (cases_name k f) [
-            | inl e ↦ absurd (let no : None ≡ Some n = sym (get_gone p.maps f k e) ∙ sym gone ∙ h in cc no)
-            | inr ne ↦ sym (get_gone_other p.maps f k ne) ∙ sym gone ∙ h
-          ]
-
-      by : (o : Option Map) → map.get p.maps f ≡ o → AreFewer p (without_fork p f)
-      by None none = subst (λ (q : PlainPages file_cmp). AreFewer p q) (none_there none) (all_there p w)
-      by (Some m) there =
-          let forks : map.len (without_fork p f).maps ≡ map.len (map.remove p.maps f) = ap map.len (fork_maps p w f m there) in
-          record {
-            whole = fork_whole p w f m there;
-            names = λ n. omega (arith, uses_fork p w f m there n);
-            objects = (fork_kept p w f m there).objects;
-            maps = left m there;
-            files = (fork_kept p w f m there).files;
-            fewer_pages = drop_all_len (record p { maps = map.remove p.maps f }) (option_map_or (filter_map page_in) (map.get p.maps f) []);
-            fewer_forks = omega (arith, forks, len_gone p.maps f);
-          }
-
-  pub below_fewer : (n : ℕ) (f : ForkName) (v : ForkParts file_cmp) → AreWhole v.pages → AreFewer v.pages (without_below n f v).pages
-  unfolding without_below
-  below_fewer zero f v w = all_there v.pages w
-  below_fewer (suc n) f v w = by (λ u whole. below_fewer n f u whole) (last_below v.tree.forks f)
-    where
-      by : ((u : ForkParts file_cmp) → AreWhole u.pages → AreFewer u.pages (without_below n f u).pages) → (o : Option Fork) → AreFewer v.pages (option_map_or (λ k. without_below n f (without v k.name)) o v).pages
-      by rest None = all_there v.pages w
-      by rest (Some k) =
-          let first = fork_fewer v.pages w k.name in
-          let u = without v k.name in
-          then_fewer v.pages u.pages (without_below n f u).pages first (rest u first.whole)
-
-  -- with all below it
+  -- and without the fork itself
   pub killed_fewer : (v : ForkParts file_cmp) (f : ForkName) → AreWhole v.pages → AreFewer v.pages (killed v f).pages
-  killed_fewer v f w =
-      let below = below_fewer MOST_FORKS f v w in
-      let u = without_below MOST_FORKS f v in
-      then_fewer v.pages u.pages (without_fork u.pages f) below (fork_fewer u.pages below.whole f)
+  unfolding killed
+  killed_fewer v f w = gone_fewer v.pages w (is_in_branch v.tree.forks f)
 
   -- the forks that are left are as they were
-  pub below_forks : (n : ℕ) (f : ForkName) (v : ForkParts file_cmp) (k : ForkName) (g : Fork) → map.get (without_below n f v).tree.forks k ≡ Some g → map.get v.tree.forks k ≡ Some g
-  unfolding without_below
-  below_forks zero f v k g is = is
-  below_forks (suc n) f v k g is = by (λ u. below_forks n f u k g) (last_below v.tree.forks f) is
-    where
-      left : (x : ForkName) → map.get (map.remove v.tree.forks x) k ≡ Some g → map.get v.tree.forks k ≡ Some g
-      left x h = elim (cases_name k x) [
-        | inl e ↦ absurd (let no : None ≡ Some g = sym (get_gone v.tree.forks x k e) ∙ h in cc no)
-        | inr ne ↦ sym (get_gone_other v.tree.forks x k ne) ∙ h
-      ]
-
-      by : ((u : ForkParts file_cmp) → map.get (without_below n f u).tree.forks k ≡ Some g → map.get u.tree.forks k ≡ Some g) → (o : Option Fork) → map.get (option_map_or (λ x. without_below n f (without v x.name)) o v).tree.forks k ≡ Some g
-          → map.get v.tree.forks k ≡ Some g
-      by rest None h = h
-      by rest (Some x) h = left x.name (rest (without v x.name) h)
+  pub below_forks : (f : ForkName) (v : ForkParts file_cmp) (k : ForkName) (g : Fork) → map.get (without_inferiors v f).tree.forks k ≡ Some g → map.get v.tree.forks k ≡ Some g
+  unfolding without_inferiors
+  below_forks f v k g is = left_was v.tree.forks (is_inferior v.tree.forks f) k g is
 
   -- so it is where a fork is killed
   pub killed_left : (v : ForkParts file_cmp) (f : ForkName) → AreWhole v.pages → AreLeft v.pages (fork_changed (Kill f) v).pages

@@ -1,13 +1,11 @@
 -- Forks that stay, and codes that are kept: then no code outlives its fork.
 use Rattle.std.proofs.Common.{◌≡◌, ◌≢◌, ℕ, Bool, true, false, cond, List, [], ◌∷◌, Option, None, Some, inl, inr, refl, sym, ◌∙◌, ap}
 use Rattle.std.specs.Prelude.{is_some}
-use Rattle.std.specs.List.{range_with_len}
-use Rattle.std.specs.Option.{option_map_or}
+use Rattle.std.specs.Option.{option_map, option_map_or}
 use Rattle.std.specs.Cmp.{nat_cmp_total}
 use Rattle.std.specs.FinMap as map
 use Rattle.std.specs.FinMap.{nat_cmp-IsAntisymmetric}
 use Rattle.machine_names.specs.declared.names.ForkName.{ForkName}
-use Rattle.machine_names.specs.declared.names.TheConstants.{MOST_FORKS, TERMINALS}
 use Rattle.machine_names.specs.declared.names.Tty.{Tty}
 use Rattle.plain_typing.specs.Lines.{Codes}
 use Rattle.plain_units.specs.declared.channel.TheConstants.{INFERIOR_ENDED}
@@ -18,7 +16,8 @@ use Rattle.plain_model.specs.InterruptCalls.{living_codes, with_codes_of}
 use Rattle.plain_model.specs.Interrupts.{posted}
 use Rattle.plain_model.specs.Posting.{told_if}
 use Rattle.plain_model.specs.State.{PlainJob}
-use Rattle.plain_model.specs.Trees.{awoken, awoken_at, changed, changed_in, end_told, job_awoken, readers_woken, sleepers_awoken, unread, unwaited, waiters_woken}
+use Rattle.plain_model.specs.Trees.{all_changed, awoken, changed, end_told, readers_woken, sleepers_awoken, unread, unwaited, waiters_woken}
+use Rattle.plain_model.proofs.ChangedForks.{get_changed, of_job}
 use Rattle.plain_model.proofs.ForkMaps.{cases_name, get_put, get_put_other}
 use Rattle.plain_laws.specs.Whole.{AreOfLiving}
 use Rattle.plain_laws.specs.WholeFiles.{Jobs}
@@ -41,26 +40,24 @@ pub changed_there : (m : ForkMap) (change : Fork → Fork) (o : Option Fork) →
 changed_there m change None f lives = lives
 changed_there m change (Some k) f lives = put_there m k.name (change k) f lives
 
-slots_there : (change : Fork → Fork) (t : Tty) (slots : List ℕ) (m : ForkMap) → Stay m (changed_in change m t slots)
-slots_there change t [] m f lives = lives
-slots_there change t (slot ∷ slots) m f lives = slots_there change t slots (changed m change (fork_in m t slot)) f (changed_there m change (fork_in m t slot) f lives)
+pub all_there : (change : Fork → Fork) (m : ForkMap) → Stay m (all_changed change m)
+all_there change m f lives = ap is_some (get_changed change m f) ∙ by (map.get m f) lives
+  where
+    by : (o : Option Fork) → is_some o ≡ true → is_some (option_map change o) ≡ true
+    by None h = h
+    by (Some g) h = refl
 
 pub waiters_there : (m : ForkMap) (t : Tty) → Stay m (waiters_woken m t)
 unfolding waiters_woken
-waiters_there m t = slots_there unwaited t (range_with_len 1 MOST_FORKS) m
+waiters_there m t = all_there (of_job unwaited t) m
 
 pub readers_there : (m : ForkMap) (t : Tty) → Stay m (readers_woken m t)
 unfolding readers_woken
-readers_there m t = slots_there unread t (range_with_len 1 MOST_FORKS) m
-
-awoken_there : (clock : ℕ) (ts : List ℕ) (m : ForkMap) → Stay m (awoken_at clock m ts)
-unfolding job_awoken
-awoken_there clock [] m f lives = lives
-awoken_there clock (t ∷ ts) m f lives = awoken_there clock ts (job_awoken clock m (record { 0 = t })) f (slots_there (awoken clock) (record { 0 = t }) (range_with_len 1 MOST_FORKS) m f lives)
+readers_there m t = all_there (of_job unread t) m
 
 pub sleepers_there : (clock : ℕ) (m : ForkMap) → Stay m (sleepers_awoken clock m)
 unfolding sleepers_awoken
-sleepers_there clock m = awoken_there clock (range_with_len 0 TERMINALS) m
+sleepers_there clock m = all_there (awoken clock) m
 
 pub told_there : (m : ForkMap) (g : Fork) → Stay m (end_told m g)
 told_there m g f lives = let v = waiters_woken m g.name.tty in changed_there v (λ k. posted k INFERIOR_ENDED) (superior_of v g) f (waiters_there m g.name.tty f lives)

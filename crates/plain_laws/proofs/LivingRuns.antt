@@ -40,7 +40,7 @@ use Rattle.plain_model.specs.Commands.{begun_at, commanded, continued, delete_fi
 use Rattle.plain_model.specs.Events.{at_job, examined_in, login, new_job, outer, poked, poked_at, with_job, word_seen}
 use Rattle.plain_model.specs.FileCalls.{times_held}
 use Rattle.plain_model.specs.FileEvents.{console, page_named, written}
-use Rattle.plain_model.specs.ForkCalls.{without_below}
+use Rattle.plain_model.specs.ForkCalls.{without_inferiors}
 use Rattle.plain_model.specs.Forks.{ForkMap, change_fork, top_fork, with_regs}
 use Rattle.plain_model.specs.InterruptCalls.{living_codes}
 use Rattle.plain_model.specs.Interrupts.{forces, posted}
@@ -56,7 +56,7 @@ use Rattle.plain_laws.specs.Whole.{AreOfLiving, IsWhole, IsWholeMachine}
 use Rattle.plain_laws.proofs.FilesKept.{put_tells}
 use Rattle.plain_laws.proofs.LivingCodes.{KeepsCodes, stopped_codes, unit_codes, with_fork_codes}
 use Rattle.plain_laws.proofs.LivingForks.{Stay, changed_there, gone_codes, narrowed_job, put_codes, put_there, readers_there, same_codes, sleepers_there, still_living}
-use Rattle.plain_laws.proofs.OtherJobs.{PartsStay, below_stays, gone_stays}
+use Rattle.plain_laws.proofs.OtherJobs.{PartsStay, below_stays, killed_stays}
 use Rattle.plain_laws.proofs.WholeCommands.{with_job_whole}
 use Rattle.plain_laws.proofs.WholeRuns.{step_whole, whole_opening}
 use Rattle.plain_laws.proofs.WholeTyped.{typed_at_whole}
@@ -73,16 +73,19 @@ module _ (s : PlainState) (are : AreOfLiving s.forks s.jobs) (t : Tty) (j k : Pl
       (λ f there. job_codes (map.insert s.forks (change f).name (change f)) (put_there s.forks (change f).name (change f))) (λ none. job_codes s.forks (λ f lives. lives))
 
 module _ (s : PlainState) (w : IsWholeMachine s) (are : AreOfLiving s.forks s.jobs) (t : Tty) (j : PlainJob) (is : map.get s.jobs t.0 ≡ Some j) where
+  as_was : (g : ForkName) (other : g.tty.0 ≡ t.0 → ⊥) → PartsStay t g other (map.get s.forks g) s.pages (forks_and_pages s)
+  as_was g other = record { forks = record { own = w.tree.slotted.own; stays = refl }; maps = refl }
+
   -- where the top fork loses its inferiors, and may go itself, forks of other jobs stay
-  below : (g : ForkName) (other : g.tty.0 ≡ t.0 → ⊥) → PartsStay t g other (map.get s.forks g) s.pages (without_below MOST_FORKS j.top (forks_and_pages s))
-  below g other = below_stays t g other (map.get s.forks g) MOST_FORKS j.top s.pages (forks_and_pages s) (w.own_tops t.0 j is) (record { forks = record { own = w.tree.slotted.own; stays = refl }; maps = refl })
+  below : (g : ForkName) (other : g.tty.0 ≡ t.0 → ⊥) → PartsStay t g other (map.get s.forks g) s.pages (without_inferiors (forks_and_pages s) j.top)
+  below g other = below_stays t g other (map.get s.forks g) j.top (w.own_tops t.0 j is) s.pages (forks_and_pages s) (as_was g other)
 
   run_codes : (name : List ℕ) (address : ℕ) → AreOfLiving (running s t j name address).forks (running s t j name address).jobs
   run_codes name address = narrowed_job s.forks n s.jobs t (λ g other lives. (let stays = below g other in changed_there alone (begun_at address) (map.get alone j.top) g (ap is_some stays.forks.stays ∙ lives))) are
       j (record (in_program j) { start = Some address; codes = living_codes n j.codes }) is refl
     where
       alone : ForkMap
-      alone = (without_below MOST_FORKS j.top (forks_and_pages s)).tree.forks
+      alone = (without_inferiors (forks_and_pages s) j.top).tree.forks
 
       n : ForkMap
       n = (running s t j name address).forks
@@ -93,7 +96,7 @@ module _ (s : PlainState) (w : IsWholeMachine s) (are : AreOfLiving s.forks s.jo
 
   logout_codes : AreOfLiving (logged_out s t j).forks (logged_out s t j).jobs
   logout_codes = gone_codes s.forks (logged_out s t j).forks s.jobs t
-      (λ g other lives. (let stays = below g other in let last = gone_stays t g other (map.get s.forks g) (without_below MOST_FORKS j.top (forks_and_pages s)).tree.forks stays.forks j.top (w.own_tops t.0 j is) in ap is_some last.stays ∙ lives)) are
+      (λ g other lives. (let stays = killed_stays t g other (map.get s.forks g) j.top (w.own_tops t.0 j is) s.pages (forks_and_pages s) (as_was g other) in ap is_some stays.forks.stays ∙ lives)) are
 
   delete_codes : (name : List ℕ) → KeepsCodes (delete_file s t name)
   delete_codes name = cond_both (map.contains_key s.files name) _ _ KeepsCodes (λ there. cond_both (nat_lt 0 (times_held s.jobs name)) _ _ KeepsCodes (λ busy. are) (λ free. are)) (λ none. are)

@@ -20,10 +20,13 @@ use Rattle.plain_pages.specs.PlainPages.{NamedPages}
 use Rattle.machine_names.specs.Orders.{name_cmp}
 use Rattle.plain_model.specs.Forks.{ForkMap, IsRunnable, fork_in, is_frozen, superior_of, with_status}
 use Rattle.plain_model.specs.Interrupts.{posted}
-use Rattle.plain_model.specs.Inferiors.{last_below}
-use Rattle.plain_model.specs.Trees.{tree_of, next_name, changed, with_body, with_mark, unwaited, woken_in, waiters_woken, end_told}
+use Rattle.plain_model.specs.Inferiors.{is_in_branch}
+use Rattle.plain_model.specs.Trees.{tree_of, next_name, changed, with_body, with_mark, unwaited, job_changed, waiters_woken, end_told}
+use Rattle.plain_model.proofs.ChangedForks.{changed_from, of_job, of_job_holds}
+use Rattle.plain_model.proofs.OtherJobs.{waiters_job}
+use Rattle.plain_laws.proofs.Killed.{left_was}
 use Rattle.plain_model.specs.Calls.{parts_behind, Asked}
-use Rattle.plain_model.specs.ForkCalls.{ForkParts, without, without_below, with_halted, fork_changed}
+use Rattle.plain_model.specs.ForkCalls.{ForkParts, killed, with_halted, fork_changed}
 use Rattle.plain_laws.specs.ForkLaws.{Resumes, UnitResumes}
 use Rattle.plain_units.specs.Steps.{Planned, done, call, stopped as unit_stopped}
 use Rattle.plain_model.specs.Unit.{Effect, called, instruction_unit, over, unit, unit_of, parts_of}
@@ -31,7 +34,7 @@ use Rattle.plain_model.specs.Inspections.{inspected}
 use Rattle.plain_model.proofs.Equations.{unit_some}
 use Rattle.plain_units.specs.Units.{unit_on}
 use Rattle.plain_laws.specs.Whole.{IsWholeMachine}
-use Rattle.plain_model.proofs.ForkMaps.{AreOwn, cases_name, get_put, get_put_other, get_gone, get_gone_other, held_there, slot_tells, superior_tells}
+use Rattle.plain_model.proofs.ForkMaps.{AreOwn, cases_name, get_put, get_put_other, held_there, slot_tells, superior_tells}
 use Rattle.plain_model.proofs.ForkEnds.{FitsChange, FitsEnd, call_names}
 use Rattle.plain_laws.proofs.Inspected.{unit_by}
 use Rattle.plain_laws.proofs.UnitForks.{KeptBy, forced_kept, fork_kept, over_kept, taken_kept}
@@ -83,14 +86,15 @@ module _ (name : ForkName) where
       subst (λ n. Marked (map.insert m n (change k))) same.0
       (put_marked m w (change k) (λ e. same.1 ∙ w.mark k (ap (map.get m) (sym (sym same.0 ∙ e)) ∙ there k refl)))
 
-  woken_marked : (m : ForkMap) → Marked m → (t : Tty) (slots : List ℕ) → Marked (woken_in m t slots)
-  woken_marked m w t [] = w
-  woken_marked m w t (slot ∷ slots) =
-      woken_marked (changed m unwaited (fork_in m t slot)) (changed_marked m w unwaited (λ f. (refl, refl)) (fork_in m t slot) (λ k is. let at = slot_tells m w.own t slot k is in at.0)) t slots
-
   waiters_marked : (m : ForkMap) → Marked m → (t : Tty) → Marked (waiters_woken m t)
   unfolding waiters_woken
-  waiters_marked m w t = woken_marked m w t (range_with_len 1 MOST_FORKS)
+  waiters_marked m w t = record { own = (waiters_job m w.own t).own; mark = marks }
+    where
+      same : (f : Fork) → (of_job unwaited t f).frozen ≡ f.frozen
+      same f = of_job_holds (λ (x y : Fork). y.frozen ≡ x.frozen) (λ x. refl) unwaited (λ x. refl) t f
+
+      marks : (g : Fork) → map.get (job_changed unwaited t m) name ≡ Some g → g.frozen ≡ true
+      marks g is = let was = changed_from (of_job unwaited t) m name g is in ap (λ (x : Fork). x.frozen) (sym was.2) ∙ same was.0 ∙ w.mark was.0 was.1
 
   told_marked : (m : ForkMap) → Marked m → (f : Fork) → Marked (end_told m f)
   told_marked m w f =
@@ -98,23 +102,12 @@ module _ (name : ForkName) where
       let u = waiters_marked m w f.name.tty in
       changed_marked v u (λ k. posted k INFERIOR_ENDED) (λ j. posted_mark j INFERIOR_ENDED) (superior_of v f) (λ k is. let at = superior_tells v u.own f k is in at.0)
 
-  gone_marked : (m : ForkMap) → Marked m → (f : ForkName) → Marked (map.remove m f)
-  gone_marked m w f = record { own = λ q h is. w.own q h (left q h is); mark = λ g is. w.mark g (left name g is) }
+  killed_marked : (v : ForkParts name_cmp) (k : ForkName) → Marked v.tree.forks → Marked (killed v k).tree.forks
+  unfolding killed
+  killed_marked v k w = record { own = λ q h is. w.own q h (left q h is); mark = λ g is. w.mark g (left name g is) }
     where
-      left : (q : ForkName) (h : Fork) → map.get (map.remove m f) q ≡ Some h → map.get m q ≡ Some h
-      left q h is = elim (cases_name q f) [
-        | inl e ↦ absurd (let no : None ≡ Some h = sym (get_gone m f q e) ∙ is in cc no)
-        | inr ne ↦ sym (get_gone_other m f q ne) ∙ is
-      ]
-
-  below_marked : (n : ℕ) (f : ForkName) (v : ForkParts name_cmp) → Marked v.tree.forks → Marked (without_below n f v).tree.forks
-  unfolding without_below
-  below_marked zero f v w = w
-  below_marked (suc n) f v w = by (λ u m. below_marked n f u m) (last_below v.tree.forks f)
-    where
-      by : ((u : ForkParts name_cmp) → Marked u.tree.forks → Marked (without_below n f u).tree.forks) → (o : Option Fork) → Marked (option_map_or (λ k. without_below n f (without v k.name)) o v).tree.forks
-      by rest None = w
-      by rest (Some k) = rest (without v k.name) (gone_marked v.tree.forks w k.name)
+      left : (q : ForkName) (h : Fork) → map.get (killed v k).tree.forks q ≡ Some h → map.get v.tree.forks q ≡ Some h
+      left q h is = left_was v.tree.forks (is_in_branch v.tree.forks k) q h is
 
   module _ (s : PlainState) (w : IsWholeMachine s) (f : Fork) (there : map.get s.forks name ≡ Some f) (mark : f.frozen ≡ true) where
     marked : Marked s.forks
@@ -157,9 +150,7 @@ module _ (name : ForkName) where
       change_stays Nothing fits = inl marked
       change_stays (Make h) fits = inl (put_marked s.forks marked h (λ e. absurd (not_next who.tty (sym fits.name ∙ e))))
       change_stays (Kill k) fits =
-          let below = below_marked MOST_FORKS k parts marked in
-          let left = (without_below MOST_FORKS k parts).tree.forks in
-          inl (waiters_marked (map.remove left k) (gone_marked left below k) k.tty)
+          inl (waiters_marked (killed parts k).tree.forks (killed_marked parts k marked) k.tty)
       change_stays (Freeze k on) fits = frozen_stays k on
       change_stays (Become k body) fits = inl (changed_marked s.forks marked (with_body body) (λ f. (refl, refl)) (map.get s.forks k) (λ h at. held k h at))
       change_stays (Halt k) fits = inl (by (map.get s.forks k) (λ h at. held k h at))

@@ -1,12 +1,12 @@
 -- What a fork call leaves: the forks and the maps of other jobs.
-use Rattle.std.proofs.Common.{◌≡◌, ◌||◌, ℕ, zero, suc, Bool, true, false, Option, None, Some, refl, sym, ◌∙◌, ap, subst}
+use Rattle.std.proofs.Common.{◌≡◌, ◌||◌, ℕ, zero, suc, Bool, true, false, cond, not, Option, None, Some, refl, sym, ◌∙◌, ap, subst}
 use Rattle.std.specs.Option.{option_map_or}
 use Rattle.std.specs.FinMap as map
 use Rattle.machine_names.specs.declared.names.Tty.{Tty}
 use Rattle.machine_names.specs.declared.names.ForkName.{ForkName}
 use Rattle.plain_units.specs.Steps.{begun}
 use Rattle.plain_model.specs.Calls.{parts_behind, no_files, turn_on, Came, Asked}
-use Rattle.plain_model.specs.ForkCalls.{ForkParts, map_wanted, without, without_below, with_halted, fork_changed, fork_call}
+use Rattle.plain_model.specs.ForkCalls.{ForkParts, killed, map_wanted, without_all, without_inferiors, with_halted, fork_changed, fork_call}
 use Rattle.plain_model.specs.declared.call.End.{End}
 use Rattle.plain_model.specs.declared.call.End.TheVariants.{Done, Waits, Halts, Refused, Failed, Trap}
 use Rattle.plain_model.specs.declared.call.ForkChange.{ForkChange}
@@ -17,17 +17,18 @@ use Rattle.plain_units.specs.declared.registers.Regs.{Regs}
 use Rattle.script_texts.specs.declared.status.ForkStatus.TheVariants.{Halted}
 use Rattle.plain_model.specs.State.{PlainState}
 use Rattle.plain_pages.specs.PlainPages.{NamedPages}
-use Rattle.machine_names.specs.Orders.{name_cmp, same_fork}
+use Rattle.machine_names.specs.Orders.{fork_cmp, name_cmp, same_fork}
 use Rattle.plain_pages.specs.NewMaps.{new_map}
 use Rattle.plain_model.specs.Forks.{ForkMap, superior_of, with_status}
-use Rattle.plain_model.specs.Inferiors.{is_within, is_inferior, last_below}
+use Rattle.plain_model.specs.Inferiors.{is_in_branch, is_within, is_inferior}
 use Rattle.plain_model.specs.Trees.{tree_of, next_name, changed, with_mark, with_body, waiters_woken, end_told}
 use Rattle.plain_laws.specs.Whole.{IsWholeMachine}
 use Rattle.plain_model.proofs.ForkEnds.{FitsChange, FitsEnd, Leads, call_ends, mapped}
-use Rattle.plain_laws.proofs.WholeForks.{last_tells}
-use Rattle.plain_model.proofs.OtherJobs.{JobChanged, KeepsName, changed_job, gone_job, put_job, told_job, waiters_job}
+use Rattle.plain_laws.proofs.Killed.{left_was}
+use Rattle.plain_model.proofs.MapsGone.{get_left, gone_leaves}
+use Rattle.plain_model.proofs.OtherJobs.{JobChanged, KeepsName, changed_job, put_job, told_job, waiters_job}
 use Rattle.plain_model.proofs.ForkMaps.{AreOwn, get_put_other, names_same, superior_tells}
-use Rattle.plain_laws.proofs.OtherMaps.{not_it, Elsewhere, run_other, words_other, gone_maps}
+use Rattle.plain_laws.proofs.OtherMaps.{not_it, Elsewhere, run_other, words_other}
 use Rattle.plain_model.specs.Families.{Parts}
 use Rattle.plain_model.specs.Unit.{parts_of}
 use Rattle.plain_model.proofs.Calling.{fork_came, fork_left, fork_called, forks_behind, jobs_behind}
@@ -73,24 +74,43 @@ module _ (t : Tty) (k : ForkName) (other : k.tty.0 ≡ t.0 → ⊥) (there : Opt
   pub told_stays : (m : ForkMap) → Stays m → (f : Fork) → f.name.tty.0 ≡ t.0 → Stays (end_told m f)
   told_stays m w f here = stays_on m (end_told m f) f.name.tty here (told_job m w.own f) w
 
-  pub gone_stays : (m : ForkMap) → Stays m → (f : ForkName) → f.tty.0 ≡ t.0 → Stays (map.remove m f)
-  gone_stays m w f here = stays_on m (map.remove m f) t refl (gone_job t m w.own f here) w
-
   -- the forks and the maps of other jobs
   pub record PartsStay (p : NamedPages) (v : ForkParts name_cmp) : Type 0 where
     pub forks : Stays v.tree.forks
     pub maps : Elsewhere t k other p v.pages
 
-  pub below_stays : (n : ℕ) (f : ForkName) (p : NamedPages) (v : ForkParts name_cmp) → f.tty.0 ≡ t.0 → PartsStay p v → PartsStay p (without_below n f v)
-  unfolding without_below
-  below_stays zero f p v here w = w
-  below_stays (suc n) f p v here w = by (λ u m. below_stays n f p u here m) (last_below v.tree.forks f) refl
+  -- forks of a job go with their maps
+  all_stay : (goes : ForkName → Bool) → goes k ≡ false → (p : NamedPages) (v : ForkParts name_cmp) → PartsStay p v → PartsStay p (without_all v goes)
+  all_stay goes stay p v w = record {
+    forks = record { own = λ name f is. w.forks.own name f (left_was v.tree.forks goes name f is); stays = left v.tree.forks ∙ w.forks.stays };
+    maps = ap (λ (q : NamedPages). map.get q.maps k) (gone_leaves v.pages goes) ∙ left v.pages.maps ∙ w.maps;
+  }
     where
-      by : ((u : ForkParts name_cmp) → PartsStay p u → PartsStay p (without_below n f u)) → (o : Option Fork) → last_below v.tree.forks f ≡ o → PartsStay p (option_map_or (λ j. without_below n f (without v j.name)) o v)
-      by rest None none = w
-      by rest (Some j) is =
-          let at = inferior_job v.tree.forks w.forks.own f j.name (last_tells v.tree.forks f j is) ∙ here in
-          rest (without v j.name) (record { forks = gone_stays v.tree.forks w.forks j.name at; maps = gone_maps t k other v.pages j.name at ∙ w.maps })
+      left : {X : Type 0} (m : map.FinMap fork_cmp X) → map.get (map.retain_keys m (λ f. not (goes f))) k ≡ map.get m k
+      left m = get_left m goes k ∙ ap (λ b. cond (not b) (map.get m k) None) stay
+
+  module _ (f : ForkName) (here : f.tty.0 ≡ t.0) (p : NamedPages) (v : ForkParts name_cmp) (w : PartsStay p v) where
+    no_inferior : is_inferior v.tree.forks f k ≡ false
+    no_inferior = by (is_inferior v.tree.forks f k) refl
+      where
+        by : (b : Bool) → is_inferior v.tree.forks f k ≡ b → b ≡ false
+        by true below = absurd (other (inferior_job v.tree.forks w.forks.own f k below ∙ here))
+        by false above = refl
+
+    another : same_fork k f ≡ false
+    another = by (same_fork k f) refl
+      where
+        by : (b : Bool) → same_fork k f ≡ b → b ≡ false
+        by true same = absurd (other (ap (λ (n : ForkName). n.tty.0) (names_same k f same) ∙ here))
+        by false apart = refl
+
+    pub below_stays : PartsStay p (without_inferiors v f)
+    unfolding without_inferiors
+    below_stays = all_stay (is_inferior v.tree.forks f) no_inferior p v w
+
+    pub killed_stays : PartsStay p (killed v f)
+    unfolding killed
+    killed_stays = all_stay (is_in_branch v.tree.forks f) (ap (λ b. b || is_inferior v.tree.forks f k) another ∙ no_inferior) p v w
 
 module _ (s : PlainState) (w : IsWholeMachine s) (who : ForkName) (regs : Regs) (k : ForkName) (other : k.tty.0 ≡ who.tty.0 → ⊥) where
   abbrev caller : Asked
@@ -121,12 +141,8 @@ module _ (s : PlainState) (w : IsWholeMachine s) (who : ForkName) (regs : Regs) 
     }
     change_same (Kill f) fits =
         let here = in_job f fits.0 in
-        let below = below_stays who.tty k other (map.get s.forks k) MOST_FORKS f s.pages parts here (record { forks = as_it_was; maps = fits.1 }) in
-        let u = without_below MOST_FORKS f parts in
-        record {
-          forks = waiters_stay who.tty k other (map.get s.forks k) (map.remove u.tree.forks f) (gone_stays who.tty k other (map.get s.forks k) u.tree.forks below.forks f here) f.tty here;
-          maps = gone_maps who.tty k other u.pages f here ∙ below.maps;
-        }
+        let left = killed_stays who.tty k other (map.get s.forks k) f here s.pages parts (record { forks = as_it_was; maps = fits.1 }) in
+        record { forks = waiters_stay who.tty k other (map.get s.forks k) (killed parts f).tree.forks left.forks f.tty here; maps = left.maps }
     change_same (Freeze f on) fits = record { forks = changed_stays who.tty k other (map.get s.forks k) s.forks as_it_was (with_mark on) (λ j. refl) (map.get s.forks f) (held_job f (in_job f fits.0)); maps = fits.1 }
     change_same (Become f body) fits = record { forks = changed_stays who.tty k other (map.get s.forks k) s.forks as_it_was (with_body body) (λ j. refl) (map.get s.forks f) (held_job f (in_job f fits.0)); maps = fits.1 }
     change_same (Halt f) fits = by (map.get s.forks f) (held_job f (in_job f fits.0))

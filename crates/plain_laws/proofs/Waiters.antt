@@ -1,6 +1,5 @@
 -- A fork that stops, where nobody waits for one; and the call by which a fork halts.
-use Rattle.std.proofs.Common.{◌≡◌, ℕ, ◌%◌, slice_index, List, [], ◌∷◌, Option, None, Some, refl, ◌∙◌, ap}
-use Rattle.std.specs.List.{range_with_len}
+use Rattle.std.proofs.Common.{◌≡◌, ◌==◌, ℕ, ◌%◌, slice_index, Bool, true, false, cond, Option, None, Some, refl, ◌∙◌, ap}
 use Rattle.std.specs.Option.{option_map, option_and_then}
 use Rattle.std.specs.FinMap as map
 use Rattle.plain_model.specs.declared.call.TheConstants.{HALTF, PBOUT}
@@ -11,32 +10,30 @@ use Rattle.plain_model.specs.declared.fork.Fork.{Fork}
 use Rattle.script_texts.specs.declared.status.ForkStatus.TheVariants.{Halted}
 use Rattle.plain_model.specs.State.{PlainState}
 use Rattle.plain_model.specs.Forks.{ForkMap, fork_in, counted, with_regs, with_status}
-use Rattle.plain_model.specs.Trees.{changed, unwaited, woken_in, waiters_woken, end_told}
+use Rattle.plain_model.specs.Trees.{changed, unwaited, waiters_woken, end_told}
+use Rattle.plain_model.proofs.ChangedForks.{get_changed, of_job}
 use Rattle.plain_model.specs.Calls.{behind_call, parts_behind, fork_behind, turn_on}
 use Rattle.plain_model.specs.Unit.{parts_of, stopped, called, turned, caller_ended}
 use Rattle.plain_model.specs.Interrupts.{posted}
-use Rattle.plain_model.proofs.ForkMaps.{AreOwn, put_itself, slot_tells}
+use Rattle.plain_model.proofs.ForkMaps.{AreOwn, same_forks}
 
 -- no fork waits for one
 abbrev pub NoneWaits : ForkMap → Type 0
 NoneWaits forks = (k : ForkName) (f : Fork) → map.get forks k ≡ Some f → unwaited f ≡ f
 
 module _ (forks : ForkMap) (own : AreOwn forks) (none : NoneWaits forks) where
-  none_changed : (t : Tty) (slot : ℕ) → changed forks unwaited (fork_in forks t slot) ≡ forks
-  none_changed t slot = by (fork_in forks t slot) refl
-    where
-      by : (o : Option Fork) → fork_in forks t slot ≡ o → changed forks unwaited o ≡ forks
-      by None is = refl
-      by (Some f) is = let at = slot_tells forks own t slot f is in ap (map.insert forks f.name) (none f.name f at.0) ∙ put_itself forks f.name f at.0
-
-  none_in : (t : Tty) (slots : List ℕ) → woken_in forks t slots ≡ forks
-  none_in t [] = refl
-  none_in t (slot ∷ slots) = ap (λ m. woken_in m t slots) (none_changed t slot) ∙ none_in t slots
-
   -- then nobody is woken
   pub none_woken : (t : Tty) → waiters_woken forks t ≡ forks
   unfolding waiters_woken
-  none_woken t = none_in t (range_with_len 1 30)
+  none_woken t = same_forks _ _ (λ k. get_changed (of_job unwaited t) forks k ∙ by k (map.get forks k) refl)
+    where
+      same : (f : Fork) → unwaited f ≡ f → (b : Bool) → cond b (unwaited f) f ≡ f
+      same f is true = is
+      same f is false = refl
+
+      by : (k : ForkName) (o : Option Fork) → map.get forks k ≡ o → option_map (of_job unwaited t) o ≡ o
+      by k None is = refl
+      by k (Some f) is = ap Some (same f (none k f is) (f.name.tty.0 == t.0))
 
   -- and of the end of a top fork nobody is told
   pub none_told : (f : Fork) → f.superior ≡ None → end_told forks f ≡ forks

@@ -17,7 +17,8 @@ use Rattle.plain_model.specs.declared.fork.Fork.{Fork}
 use Rattle.plain_model.specs.State.{PlainState, PlainJob}
 use Rattle.plain_model.specs.Forks.{change_fork, with_fork}
 use Rattle.plain_model.specs.Trees.{changed, tree_of}
-use Rattle.plain_model.specs.ForkCalls.{without_below}
+use Rattle.plain_model.specs.ForkCalls.{without_inferiors}
+use Rattle.fork_tree.proofs.Killing.{killed_last}
 use Rattle.plain_model.specs.FileCalls.{times_held}
 use Rattle.plain_model.specs.InterruptCalls.{living_codes}
 use Rattle.plain_model.specs.FileEvents.{page_named}
@@ -70,7 +71,7 @@ module _ (s : PlainState) (w : IsWholeMachine s) (t : Tty) (j : PlainJob) (is : 
 
   -- without inferiors, the top fork is the only one of its job
   abbrev pub alone : PlainState
-  alone = with_forks_and_pages s (without_below MOST_FORKS j.top (forks_and_pages s))
+  alone = with_forks_and_pages s (without_inferiors (forks_and_pages s) j.top)
 
   pub alone_whole : IsBare j.top alone
   alone_whole = bare_whole s w j.top
@@ -120,7 +121,8 @@ module _ (s : PlainState) (w : IsWholeMachine s) (t : Tty) (j : PlainJob) (is : 
 
   -- the top fork goes as the last of its job, and so no fork is left without one
   pub logged_out_whole : IsWholeMachine (logged_out s t j)
-  logged_out_whole = left_whole alone alone_whole.whole j.top alone_whole.bare (map.remove s.jobs t.0) (job_gone s.files alone.pages.files s.jobs alone_whole.whole.files t.0) homes were
+  logged_out_whole = subst (λ v. IsWholeMachine (record (with_forks_and_pages s v) { jobs = map.remove s.jobs t.0 })) (sym (killed_last (forks_and_pages s) j.top))
+      (left_whole alone alone_whole.whole j.top alone_whole.bare (map.remove s.jobs t.0) (job_gone s.files alone.pages.files s.jobs alone_whole.whole.files t.0) homes were)
     where
       homes : (f : ForkName) → f ≢ j.top → map.contains_key alone.forks f ≡ true → map.contains_key (map.remove s.jobs t.0) f.tty.0 ≡ true
       homes f other lives = ap is_some (get_gone_other nat_cmp_total nat_cmp-IsAntisymmetric s.jobs t.0 f.tty.0 (λ job. other (only_one f lives job))) ∙ alone_whole.whole.homes f lives

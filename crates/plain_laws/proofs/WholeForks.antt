@@ -1,7 +1,7 @@
 -- A whole state stays whole where forks are changed but for their names, slots and superiors, and where one is made or killed.
 use Rattle.std.proofs.Common.{◌≡◌, ◌≢◌, ℕ, zero, suc, ◌+◌, ◌%◌, ◌<◌, ◌≤◌, ◌&&◌, Bool, true, false, cond, not, List, [], ◌∷◌, Option, None, Some, ◌⊎◌, inl, inr, refl, sym, ◌∙◌, ap, subst, arith, get_or-set_other}
 use Rattle.std.specs.Prelude.{◌==◌, IsSome, MatchOption, is_some, nat_lt, slice_index, slice_set}
-use Rattle.std.specs.List.{filter_map, range_with_len}
+use Rattle.std.specs.List.{filter_map}
 use Rattle.std.specs.Option.{option_map, option_or, option_map_or, option_and_then}
 use Rattle.std.specs.Ordering.{eq_by_cmp, nat_cmp}
 use Rattle.std.specs.Cmp.{Equal-is, nat_cmp_total}
@@ -38,14 +38,14 @@ use Rattle.plain_pages.specs.NewMaps.{new_map, with_map}
 use Rattle.plain_model.specs.Forks.{with_regs, ForkMap, fork_in, superior_of, with_fork, with_status, any_upward}
 use Rattle.plain_model.specs.Interrupts.{posted}
 use Rattle.plain_units.specs.Steps.{begun, is_accumulator}
-use Rattle.plain_model.specs.Inferiors.{is_within, is_inferior, has_inferior, leaf_below, last_up_to, last_below}
-use Rattle.plain_model.specs.Trees.{tree_of, free_slot, next_name, next_serial, new_fork, with_made, changed, changed_in, with_mark, with_body, unwaited, unread, waiters_woken, readers_woken, end_told, awoken, awoken_at, job_awoken, sleepers_awoken}
+use Rattle.plain_model.specs.Inferiors.{is_within, is_inferior}
+use Rattle.plain_model.specs.Trees.{tree_of, free_slot, next_name, next_serial, new_fork, with_made, all_changed, changed, job_changed, with_mark, with_body, unwaited, unread, waiters_woken, readers_woken, end_told, awoken, sleepers_awoken}
 use Rattle.plain_units.specs.Blocks.{next_address, stored_from}
 use Rattle.script_texts.specs.declared.status.WaitOn.{WaitOn}
 use Rattle.script_texts.specs.declared.status.WaitOn.TheVariants as on
 use Rattle.plain_model.specs.Calls.{with_error, with_wait, fork_behind, no_files, parts_behind, posted_if, turn_on, Asked}
 use Rattle.plain_model.specs.Commands.{forks_and_pages, with_forks_and_pages}
-use Rattle.plain_model.specs.ForkCalls.{fork_call, map_wanted, without, without_below, killed, with_halted, fork_changed}
+use Rattle.plain_model.specs.ForkCalls.{fork_call, map_wanted, without_inferiors, killed, with_halted, fork_changed}
 use Rattle.plain_pages.specs.WholePages.{AreWhole}
 use Rattle.plain_laws.specs.WholeFiles.{Files, FilePages, Jobs, AreOpen, AreFilesWhole}
 use Rattle.plain_laws.proofs.FilesKept.{job_put, put_tells}
@@ -53,7 +53,7 @@ use Rattle.plain_laws.specs.Whole.{AreGiven, IsWholeMachine}
 use Rattle.plain_laws.proofs.GivenSerials.{IsNewGiven, added_given, removed_given, run_given, words_given}
 use Rattle.plain_units.proofs.Lookups.{looked_up}
 use Rattle.machine_names.proofs.OrderLemmas.{fork_cmp_total, fork_cmp_apart}
-use Rattle.plain_model.proofs.ForkMaps.{cases_name, get_put, get_put_other, get_gone, get_gone_other, gone_itself, same_forks, slot_tells, superior_tells}
+use Rattle.plain_model.proofs.ForkMaps.{cases_name, get_put, get_put_other, get_gone, get_gone_other, gone_itself, same_forks, superior_tells}
 use Rattle.plain_pages.proofs.Kept.{fork_kept, fork_maps, live_fork, fork_whole as fork_left_whole}
 use Rattle.plain_units.proofs.PageRuns.{AreSound, Keeps, kept_itself, kept_on, stored_kept}
 use Rattle.plain_model.proofs.ForkEnds.{FitsChange, FitsEnd, Leads, call_ends, call_keeps, mapped}
@@ -62,13 +62,16 @@ use Rattle.plain_model.specs.Families.{codes_behind, forks_changed}
 use Rattle.plain_model.specs.InterruptCalls.{living_codes, with_codes_of}
 use Rattle.plain_model.specs.Unit.{parts_of, with_parts}
 use Rattle.plain_model.proofs.Calling.{fork_came, fork_called}
-use Rattle.fork_tree.specs.Inferiors.{HasNoInferior, IsLastBelow}
+use Rattle.fork_tree.specs.Inferiors.{HasNoInferior, without}
 use Rattle.fork_tree.specs.Trees.{IsTree}
 use Rattle.fork_tree.proofs.Kept.{changed_tree, killed_tree, made_tree, name_unused}
-use Rattle.fork_tree.proofs.Killing.{below_in, fewer_counted, last_is, none_counted}
+use Rattle.fork_tree.proofs.Killing.{below_in, fewer_counted, killed_last, leaf_first, leaf_or_none, none_counted, without_none}
 use Rattle.fork_tree.proofs.Leaves.{nobodys_superior}
 use Rattle.fork_tree.proofs.Slots.{empty_of, held_lives, in_found, some_of}
+use Rattle.fork_tree.proofs.Sleepers.{tree_awoken}
 use Rattle.fork_tree.proofs.Upward.{tally, tally_most}
+use Rattle.fork_tree.proofs.Waking.{by_slots, in_order}
+use Rattle.plain_model.proofs.ChangedForks.{get_changed, of_job, of_job_holds}
 use Rattle.plain_model.proofs.Posted.{IsSame, posted_same}
 
 -- a fork that is put over one
@@ -216,34 +219,46 @@ module _ (s : PlainState) (w : IsWholeMachine s) where
   changed_if change same None there = w
   changed_if change same (Some k) there = let is = same k in fork_at_whole s w k.name k (change k) (there k refl) is.0 is.1 is.2
 
--- forks in slots of a job changed in order that keep their names, slots and superiors
-module _ (change : Fork → Fork) (same : (f : Fork) → IsSame f (change f)) where
-  slots_whole : (s : PlainState) → IsWholeMachine s → (t : Tty) (slots : List ℕ) → IsWholeMachine (record s { forks = changed_in change s.forks t slots })
-  slots_whole s w t [] = w
-  slots_whole s w t (slot ∷ slots) =
-      let forks = changed s.forks change (fork_in s.forks t slot) in
-      slots_whole (record s { forks = forks }) (changed_if s w change same (fork_in s.forks t slot) (λ k is. let at = slot_tells s.forks w.tree.slotted.own t slot k is in at.0)) t slots
-
--- so who sleeps to a moment that the clock has reached runs again, at these terminals
-awoken_whole : (clock : ℕ) (s : PlainState) → IsWholeMachine s → (ts : List ℕ) → IsWholeMachine (record s { forks = awoken_at clock s.forks ts })
-unfolding job_awoken
-awoken_whole clock s w [] = w
-awoken_whole clock s w (t ∷ ts) = awoken_whole clock (record s { forks = job_awoken clock s.forks (record { 0 = t }) }) (slots_whole (awoken clock) (λ f. (refl, refl, refl)) s w (record { 0 = t }) (range_with_len 1 MOST_FORKS)) ts
-
 module _ (s : PlainState) (w : IsWholeMachine s) where
-  -- and at all
+  -- all forks changed, each of which keeps its name, slot and superior
+  all_whole : (change : Fork → Fork) → ((f : Fork) → IsSame f (change f)) → IsTree (record (tree_of s) { forks = all_changed change s.forks }) → IsWholeMachine (record s { forks = all_changed change s.forks })
+  all_whole change same tree = record {
+    pages = w.pages;
+    room = w.room;
+    files = w.files;
+    forks = λ k. lives k ∙ w.forks k;
+    tree = tree;
+    given = w.given;
+    homes = λ k h. w.homes k (sym (lives k) ∙ h);
+    tops = λ t j is. let top = w.tops t j is in (change top.0, get_changed change s.forks j.top ∙ ap (option_map change) top.1, (same top.0).1 ∙ top.2, (same top.0).2 ∙ top.3);
+    own_tops = w.own_tops;
+  }
+    where
+      lives : (k : ForkName) → map.contains_key (all_changed change s.forks) k ≡ map.contains_key s.forks k
+      lives k = ap is_some (get_changed change s.forks k) ∙ by (map.get s.forks k)
+        where
+          by : (o : Option Fork) → is_some (option_map change o) ≡ is_some o
+          by None = refl
+          by (Some f) = refl
+
+  job_forks_whole : (change : Fork → Fork) → ((f : Fork) → IsSame f (change f)) → (t : Tty) → IsWholeMachine (record s { forks = job_changed change t s.forks })
+  job_forks_whole change same t =
+      all_whole (of_job change t) (of_job_holds IsSame (λ f. (refl, refl, refl)) change same t)
+      (subst (λ (m : ForkMap). IsTree (record (tree_of s) { forks = m })) (by_slots change same t (tree_of s) w.tree) (in_order change same t MOST_FORKS 1 (tree_of s) w.tree))
+
+  -- who sleeps to a moment that the clock has reached runs again
   pub sleepers_whole : (clock : ℕ) → IsWholeMachine (record s { forks = sleepers_awoken clock s.forks })
   unfolding sleepers_awoken
-  sleepers_whole clock = awoken_whole clock s w (range_with_len 0 TERMINALS)
+  sleepers_whole clock = all_whole (awoken clock) (λ f. (refl, refl, refl)) (tree_awoken clock (tree_of s) w.tree)
 
   -- who waits for a fork runs again, or who waits for a character
   pub waiters_whole : (t : Tty) → IsWholeMachine (record s { forks = waiters_woken s.forks t })
   unfolding waiters_woken
-  waiters_whole t = slots_whole unwaited (λ f. (refl, refl, refl)) s w t (range_with_len 1 MOST_FORKS)
+  waiters_whole t = job_forks_whole unwaited (λ f. (refl, refl, refl)) t
 
   pub readers_whole : (t : Tty) → IsWholeMachine (record s { forks = readers_woken s.forks t })
   unfolding readers_woken
-  readers_whole t = slots_whole unread (λ f. (refl, refl, refl)) s w t (range_with_len 1 MOST_FORKS)
+  readers_whole t = job_forks_whole unread (λ f. (refl, refl, refl)) t
 
   posted_whole : (f : Fork) (channel : ℕ) → IsWholeMachine (record s { forks = changed s.forks (λ k. posted k channel) (superior_of s.forks f) })
   posted_whole f channel = changed_if s w (λ k. posted k channel) (λ k. posted_same k channel) (superior_of s.forks f) (λ k is. let at = superior_tells s.forks w.tree.slotted.own f k is in at.0)
@@ -339,61 +354,41 @@ inferior_tells forks who name is = by (map.get forks name) refl is
     by None none h = absurd (cc h)
     by (Some f) there h = (f, there, over f f.superior refl h)
 
--- the last fork below another is an inferior of it
-pub last_tells : (forks : ForkMap) (who : ForkName) (f : Fork) → last_below forks who ≡ Some f → is_inferior forks who f.name ≡ true
-unfolding last_below
-last_tells forks who f is = up_to MOST_FORKS is
-  where
-    leaf : (o : Option Fork) → option_and_then (leaf_below forks who) o ≡ Some f → is_inferior forks who f.name ≡ true
-    leaf None e = absurd (cc e)
-    leaf (Some k) e = by (is_inferior forks who k.name) refl (has_inferior forks k) e
-      where
-        by : (b : Bool) → is_inferior forks who k.name ≡ b → (c : Bool) → cond (b && not c) (Some k) None ≡ Some f → is_inferior forks who f.name ≡ true
-        by true below false h = let same : k ≡ f = cc h in ap (λ (x : Fork). is_inferior forks who x.name) (sym same) ∙ below
-        by true below true h = absurd (cc h)
-        by false above c h = absurd (cc h)
-
-    either : (a b : Option Fork) → (a ≡ Some f → is_inferior forks who f.name ≡ true) → (b ≡ Some f → is_inferior forks who f.name ≡ true) → option_or a b ≡ Some f → is_inferior forks who f.name ≡ true
-    either None b first second e = second e
-    either (Some k) b first second e = first e
-
-    up_to : (n : ℕ) → last_up_to forks who n ≡ Some f → is_inferior forks who f.name ≡ true
-    up_to zero e = absurd (cc e)
-    up_to (suc n) e = either (option_and_then (leaf_below forks who) (fork_in forks who.tty (suc n))) (last_up_to forks who n) (leaf (fork_in forks who.tty (suc n))) (up_to n) e
-
 -- whole, and without a fork's inferiors
 pub record IsBare (f : ForkName) (s : PlainState) : Type 0 where
   pub whole : IsWholeMachine s
   pub bare : HasNoInferior s.forks f
 
-below_whole : (n : ℕ) (f : ForkName) (s : PlainState) → IsWholeMachine s → tally (below_in s.forks f) 1 MOST_FORKS ≤ n → IsBare f (with_forks_and_pages s (without_below n f (forks_and_pages s)))
-unfolding without_below
-below_whole zero f s w few = record { whole = w; bare = none_counted f (tree_of s) w.tree few }
-below_whole (suc n) f s w few = by (λ t whole fewer. below_whole n f t whole fewer) (last_below s.forks f) refl (last_is (tree_of s) w.tree f)
-  where
-    by : ((t : PlainState) → IsWholeMachine t → tally (below_in t.forks f) 1 MOST_FORKS ≤ n → IsBare f (with_forks_and_pages t (without_below n f (forks_and_pages t)))) → (o : Option Fork) → last_below s.forks f ≡ o
-        → MatchOption o (HasNoInferior s.forks f) (λ k. IsLastBelow s.forks f k.name) → IsBare f (with_forks_and_pages s (option_map_or (λ k. without_below n f (without (forks_and_pages s) k.name)) o (forks_and_pages s)))
-    by rest None none bare = record { whole = w; bare = bare }
-    by rest (Some k) is last =
-        let own = inferior_tells s.forks f k.name (last_tells s.forks f k is) in
-        let fewer = fewer_counted f (tree_of s) w.tree last.fork last.leaf in
-        let here : tally (below_in (map.remove s.forks k.name) f) 1 MOST_FORKS < tally (below_in s.forks f) 1 MOST_FORKS =
-        subst (λ (q : ForkName). tally (below_in (map.remove s.forks q) f) 1 MOST_FORKS < tally (below_in s.forks f) 1 MOST_FORKS) last.named fewer in
-        rest (with_forks_and_pages s (without (forks_and_pages s) k.name)) (gone_whole s w k.name (subst (HasNoInferior s.forks) last.named last.leaf.leaf) (below_no_top s w k.name own.0 own.1 own.2)) (omega (arith, few, here))
+none_whole : (f : ForkName) (s : PlainState) → IsWholeMachine s → HasNoInferior s.forks f → IsBare f (with_forks_and_pages s (without_inferiors (forks_and_pages s) f))
+none_whole f s w none = subst (λ v. IsBare f (with_forks_and_pages s v)) (sym (without_none (forks_and_pages s) f none)) (record { whole = w; bare = none })
+
+below_whole : (n : ℕ) (f : ForkName) (s : PlainState) → IsWholeMachine s → tally (below_in s.forks f) 1 MOST_FORKS ≤ n → IsBare f (with_forks_and_pages s (without_inferiors (forks_and_pages s) f))
+below_whole zero f s w few = none_whole f s w (none_counted f (tree_of s) w.tree few)
+below_whole (suc n) f s w few = elim (leaf_or_none f (tree_of s) w.tree) [
+  | inr none ↦ none_whole f s w none
+  | inl found ↦
+      let leaf = found.1 in
+      let k = found.0.name in
+      let own = inferior_tells s.forks f k leaf.below in
+      let left = without (forks_and_pages s) k in
+      let rest = below_whole n f (with_forks_and_pages s left) (gone_whole s w k leaf.leaf (below_no_top s w k own.0 own.1 own.2)) (omega (arith, few, fewer_counted f (tree_of s) w.tree found.0 leaf)) in
+      subst (λ v. IsBare f (with_forks_and_pages s v)) (leaf_first (forks_and_pages s) f found.0 w.tree leaf) rest
+]
 
 module _ (s : PlainState) (w : IsWholeMachine s) where
   -- without a fork's inferiors
-  pub bare_whole : (f : ForkName) → IsBare f (with_forks_and_pages s (without_below MOST_FORKS f (forks_and_pages s)))
+  pub bare_whole : (f : ForkName) → IsBare f (with_forks_and_pages s (without_inferiors (forks_and_pages s) f))
   bare_whole f = below_whole MOST_FORKS f s w (tally_most (below_in s.forks f) 1 MOST_FORKS)
 
   -- without a fork and its inferiors; who waits for a fork runs again
   pub killed_whole : (f : ForkName) → IsNoTop s f → IsWholeMachine (with_forks_and_pages s (fork_changed (Kill f) (forks_and_pages s)))
   unfolding fork_changed
   killed_whole f no_top =
-      let t = with_forks_and_pages s (without_below MOST_FORKS f (forks_and_pages s)) in
+      let t = with_forks_and_pages s (without_inferiors (forks_and_pages s) f) in
       let u = with_forks_and_pages s (killed (forks_and_pages s) f) in
       let b = bare_whole f in
-      waiters_whole u (gone_whole t b.whole f b.bare no_top) f.tty
+      let whole : IsWholeMachine u = subst (λ v. IsWholeMachine (with_forks_and_pages s v)) (sym (killed_last (forks_and_pages s) f)) (gone_whole t b.whole f b.bare no_top) in
+      waiters_whole u whole f.tty
 
   pub halted_whole : (f : ForkName) → IsWholeMachine (with_forks_and_pages s (fork_changed (Halt f) (forks_and_pages s)))
   unfolding fork_changed

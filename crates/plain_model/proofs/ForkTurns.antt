@@ -1,41 +1,34 @@
 -- What the turn of a fork call leaves: the pages of files. It does not depend on what files are known by.
-use Rattle.std.proofs.Common.{◌≡◌, ℕ, zero, suc, ◌%◌, Bool, true, false, cond, List, [], ◌∷◌, Option, None, Some, refl, ◌∙◌, ap, Ordering}
-use Rattle.std.specs.List.{filter_map}
+use Rattle.std.proofs.Common.{◌≡◌, ℕ, ◌%◌, Bool, true, false, cond, not, List, [], ◌∷◌, Option, None, Some, refl, ◌∙◌, ap, Ordering}
 use Rattle.std.specs.Option.{option_map_or}
 use Rattle.std.specs.FinMap as map
 use Rattle.outside.specs.declared.TheConstants.{PAGE_WORDS}
 use Rattle.plain_model.specs.declared.call.ForkChange.{ForkChange}
 use Rattle.plain_model.specs.declared.call.ForkChange.TheVariants.{Nothing, Make, Kill, Freeze, Become, Halt, Store}
-use Rattle.machine_names.specs.declared.names.TheConstants.{MOST_FORKS}
 use Rattle.machine_names.specs.declared.names.ForkName.{ForkName}
 use Rattle.machine_names.specs.declared.names.PageName.{PageName}
 use Rattle.plain_model.specs.declared.fork.Fork.{Fork}
 use Rattle.plain_pages.specs.PlainPages.{PlainPages, refiled}
 use Rattle.machine_names.specs.Orders.{file_page_cmp}
-use Rattle.plain_pages.specs.Room.{page_in}
-use Rattle.plain_pages.specs.References.{without_fork, stored, in_map, slot_at}
+use Rattle.plain_pages.specs.References.{stored, in_map, slot_at}
 use Rattle.plain_units.specs.Steps.{is_accumulator}
-use Rattle.plain_model.specs.Inferiors.{last_below}
+use Rattle.plain_model.specs.Inferiors.{is_in_branch, is_inferior}
 use Rattle.plain_units.specs.Blocks.{next_address, stored_from}
 use Rattle.plain_model.specs.Trees.{waiters_woken}
-use Rattle.plain_model.specs.ForkCalls.{ForkParts, with_forks, without, without_below, killed, with_halted, fork_changed}
-use Rattle.plain_pages.proofs.Kept.{drop_all_leaves}
-use Rattle.plain_pages.proofs.Refiled.{NameAlike, fork_refiled}
-use Rattle.plain_units.proofs.RefiledUnits.{still_alike, stored_leaves, stored_refiled}
+use Rattle.plain_model.specs.ForkCalls.{ForkParts, with_forks, without_all, without_inferiors, killed, with_halted, fork_changed}
+use Rattle.plain_pages.proofs.Refiled.{NameAlike}
+use Rattle.plain_model.proofs.MapsGone.{gone_leaves, gone_refiled}
+use Rattle.plain_units.proofs.RefiledUnits.{stored_leaves, stored_refiled}
 
 module _ {K : Type 0} {file_cmp : K → K → Ordering} where
-  fork_leaves : (p : PlainPages file_cmp) (f : ForkName) → (without_fork p f).files ≡ p.files
-  unfolding without_fork
-  fork_leaves p f = ap (λ (q : PlainPages file_cmp). q.files) (drop_all_leaves (record p { maps = map.remove p.maps f }) (option_map_or (filter_map page_in) (map.get p.maps f) []))
+  -- who is killed leaves the pages of files
+  pub killed_leaves : (v : ForkParts file_cmp) (f : ForkName) → (killed v f).pages.files ≡ v.pages.files
+  unfolding killed
+  killed_leaves v f = ap (λ (p : PlainPages file_cmp). p.files) (gone_leaves v.pages (is_in_branch v.tree.forks f))
 
-  below_leaves : (n : ℕ) (f : ForkName) (v : ForkParts file_cmp) → (without_below n f v).pages.files ≡ v.pages.files
-  unfolding without_below
-  below_leaves zero f v = refl
-  below_leaves (suc n) f v = by (λ u. below_leaves n f u) (last_below v.tree.forks f)
-    where
-      by : ((u : ForkParts file_cmp) → (without_below n f u).pages.files ≡ u.pages.files) → (o : Option Fork) → (option_map_or (λ k. without_below n f (without v k.name)) o v).pages.files ≡ v.pages.files
-      by rest None = refl
-      by rest (Some k) = rest (without v k.name) ∙ fork_leaves v.pages k.name
+  pub inferiors_leave : (v : ForkParts file_cmp) (f : ForkName) → (without_inferiors v f).pages.files ≡ v.pages.files
+  unfolding without_inferiors
+  inferiors_leave v f = ap (λ (p : PlainPages file_cmp). p.files) (gone_leaves v.pages (is_inferior v.tree.forks f))
 
   stored_from_leaves : (p : PlainPages file_cmp) (f : ForkName) (at : ℕ) (words : List ℕ) → (stored_from p f at words).files ≡ p.files
   stored_from_leaves p f at [] = refl
@@ -53,7 +46,7 @@ module _ {K : Type 0} {file_cmp : K → K → Ordering} where
   unfolding fork_changed
   changed_leaves Nothing v = refl
   changed_leaves (Make f) v = refl
-  changed_leaves (Kill f) v = fork_leaves (without_below MOST_FORKS f v).pages f ∙ below_leaves MOST_FORKS f v
+  changed_leaves (Kill f) v = killed_leaves v f
   changed_leaves (Freeze f on) v = refl
   changed_leaves (Become f body) v = refl
   changed_leaves (Halt f) v = by (map.get v.tree.forks f)
@@ -71,26 +64,17 @@ module _ {K L : Type 0} {file_cmp : K → K → Ordering} (other_cmp : L → L �
   abbrev AreAlike : ForkParts file_cmp → Type 0
   AreAlike v = NameAlike other_cmp v.pages files
 
-  without_refiled : (v : ForkParts file_cmp) (f : ForkName) → AreAlike v → without (refiled_parts v) f ≡ refiled_parts (without v f)
-  without_refiled v f alike = ap (λ (p : PlainPages other_cmp). record { tree = record v.tree { forks = map.remove v.tree.forks f }; pages = p }) (fork_refiled other_cmp files v.pages f alike)
+  all_refiled : (v : ForkParts file_cmp) (goes : ForkName → Bool) → AreAlike v → without_all (refiled_parts v) goes ≡ refiled_parts (without_all v goes)
+  all_refiled v goes alike = ap (λ (p : PlainPages other_cmp). record { tree = record v.tree { forks = map.retain_keys v.tree.forks (λ f. not (goes f)) }; pages = p }) (gone_refiled other_cmp files v.pages goes alike)
 
-  still : (v : ForkParts file_cmp) (f : ForkName) → AreAlike v → AreAlike (without v f)
-  still v f alike = still_alike other_cmp files v.pages (without_fork v.pages f) alike (fork_leaves v.pages f)
+  -- nor does who is killed depend on it
+  pub killed_refiled : (v : ForkParts file_cmp) (f : ForkName) → AreAlike v → killed (refiled_parts v) f ≡ refiled_parts (killed v f)
+  unfolding killed
+  killed_refiled v f alike = all_refiled v (is_in_branch v.tree.forks f) alike
 
-  below_refiled : (n : ℕ) (f : ForkName) (v : ForkParts file_cmp) → AreAlike v → without_below n f (refiled_parts v) ≡ refiled_parts (without_below n f v)
-  unfolding without_below
-  below_refiled zero f v alike = refl
-  below_refiled (suc n) f v alike = by (λ u still. below_refiled n f u still) (last_below v.tree.forks f)
-    where
-      by : ((u : ForkParts file_cmp) → AreAlike u → without_below n f (refiled_parts u) ≡ refiled_parts (without_below n f u)) → (o : Option Fork)
-          → option_map_or (λ k. without_below n f (without (refiled_parts v) k.name)) o (refiled_parts v) ≡ refiled_parts (option_map_or (λ k. without_below n f (without v k.name)) o v)
-      by rest None = refl
-      by rest (Some k) = ap (without_below n f) (without_refiled v k.name alike) ∙ rest (without v k.name) (still v k.name alike)
-
-  killed_refiled : (f : ForkName) (v : ForkParts file_cmp) → AreAlike v → killed (refiled_parts v) f ≡ refiled_parts (killed v f)
-  killed_refiled f v alike =
-      let b = without_below MOST_FORKS f v in
-      ap (λ u. without u f) (below_refiled MOST_FORKS f v alike) ∙ without_refiled b f (still_alike other_cmp files v.pages b.pages alike (below_leaves MOST_FORKS f v))
+  pub inferiors_refiled : (v : ForkParts file_cmp) (f : ForkName) → AreAlike v → without_inferiors (refiled_parts v) f ≡ refiled_parts (without_inferiors v f)
+  unfolding without_inferiors
+  inferiors_refiled v f alike = all_refiled v (is_inferior v.tree.forks f) alike
 
   stored_from_refiled : (p : PlainPages file_cmp) (f : ForkName) (at : ℕ) (words : List ℕ) → stored_from (refiled other_cmp p files) f at words ≡ refiled other_cmp (stored_from p f at words) files
   stored_from_refiled p f at [] = refl
@@ -112,7 +96,7 @@ module _ {K L : Type 0} {file_cmp : K → K → Ordering} (other_cmp : L → L �
   unfolding fork_changed
   change_refiled Nothing v alike = refl
   change_refiled (Make f) v alike = refl
-  change_refiled (Kill f) v alike = ap (λ k. with_forks k (waiters_woken k.tree.forks f.tty)) (killed_refiled f v alike)
+  change_refiled (Kill f) v alike = ap (λ k. with_forks k (waiters_woken k.tree.forks f.tty)) (killed_refiled v f alike)
   change_refiled (Freeze f on) v alike = refl
   change_refiled (Become f body) v alike = refl
   change_refiled (Halt f) v alike = by (map.get v.tree.forks f)

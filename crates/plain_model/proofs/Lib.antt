@@ -4,6 +4,7 @@ pub mod FileNames
 pub mod Runs
 pub mod Values
 pub mod ForkMaps
+pub mod ChangedForks
 pub mod OtherJobs
 pub mod Calling
 pub mod Equations
@@ -11,6 +12,7 @@ pub mod Turns
 pub mod ForkEnds
 pub mod Posted
 pub mod MapTurns
+pub mod MapsGone
 pub mod ForkTurns
 pub mod RefiledPages
 pub mod MapKeeps

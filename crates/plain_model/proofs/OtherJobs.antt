@@ -1,21 +1,21 @@
 -- What changes of the forks of one job leave: the forks of the others.
 use Rattle.std.proofs.Common.{◌-◌, ◌==◌, ◌&&◌, cond, ◌≡◌, ◌≢◌, ℕ, Bool, true, false, List, [], ◌∷◌, Option, None, Some, inl, inr, refl, sym, ◌∙◌, ap}
-use Rattle.std.specs.List.{list_any, range_with_len}
-use Rattle.std.specs.Option.{option_and_then, option_map_or}
+use Rattle.std.specs.List.{list_any}
+use Rattle.std.specs.Option.{option_and_then, option_map, option_map_or}
 use Rattle.std.specs.FinMap as map
 use Rattle.std.specs.Prelude.{nat_le}
 use Rattle.std.proofs.lemmas.Bool.{cond_both}
 use Rattle.plain_units.specs.declared.channel.TheConstants.{INFERIOR_ENDED}
 use Rattle.machine_names.specs.declared.names.Tty.{Tty}
 use Rattle.machine_names.specs.declared.names.ForkName.{ForkName}
-use Rattle.machine_names.specs.declared.names.TheConstants.{MOST_FORKS}
 use Rattle.plain_model.specs.declared.fork.Fork.{Fork}
 use Rattle.plain_model.specs.declared.call.TheConstants.{FIRST_HANDLE, FORK_SELF, FORK_SUPERIOR, LAST_HANDLE}
 use Rattle.plain_model.specs.Handles.{named, named_by}
 use Rattle.plain_model.specs.Forks.{ForkMap, OthersStay, fork_in, superior_of}
 use Rattle.plain_model.specs.Interrupts.{forces, posted, posted_all}
 use Rattle.plain_model.specs.Posting.{told_if, with_all_posted}
-use Rattle.plain_model.specs.Trees.{PlainTree, changed, changed_in, end_told, readers_woken, unread, unwaited, waiters_woken, with_changed_of}
+use Rattle.plain_model.specs.Trees.{PlainTree, changed, end_told, job_changed, readers_woken, unread, unwaited, waiters_woken, with_changed_of}
+use Rattle.plain_model.proofs.ChangedForks.{changed_from, get_changed, of_job, others_alone}
 use Rattle.plain_model.proofs.ForkMaps.{AreOwn, cases_name, get_gone, get_gone_other, get_put, get_put_other, slot_tells, superior_tells}
 use Rattle.plain_model.proofs.Posted.{posted_same}
 
@@ -94,22 +94,32 @@ module _ (t : Tty) (m : ForkMap) where
     pub named_of : (name : ForkName) → name.tty.0 ≡ t.0 → AreOf t (map.get m name)
     named_of name here f is = ap (λ (n : ForkName). n.tty.0) (own name f is) ∙ here
 
--- ---- forks of a job told, in order
+-- ---- forks of a job told
 
-pub changed_in_job : (t : Tty) (change : Fork → Fork) → KeepsName change → (slots : List ℕ) (m : ForkMap) → AreOwn m → JobChanged t m (changed_in change m t slots)
-changed_in_job t change same [] m own = record { own = own; others = others_itself t m }
-changed_in_job t change same (slot ∷ slots) m own =
-    let one = changed m change (fork_in m t slot) in
-    let first = changed_job t m own change same (fork_in m t slot) (λ f is. (slot_tells m own t slot f is).1) in
-    job_on t m one (changed_in change one t slots) first (changed_in_job t change same slots one first.own)
+pub job_changed_job : (t : Tty) (change : Fork → Fork) → KeepsName change → (m : ForkMap) → AreOwn m → JobChanged t m (job_changed change t m)
+job_changed_job t change same m own = record { own = owns; others = λ name other. get_changed (of_job change t) m name ∙ stays name other (map.get m name) refl }
+  where
+    named : (f : Fork) → (of_job change t f).name ≡ f.name
+    named f = by (f.name.tty.0 == t.0)
+      where
+        by : (b : Bool) → (cond b (change f) f).name ≡ f.name
+        by true = same f
+        by false = refl
+
+    owns : AreOwn (job_changed change t m)
+    owns name f is = let was = changed_from (of_job change t) m name f is in ap (λ (x : Fork). x.name) (sym was.2) ∙ named was.0 ∙ own name was.0 was.1
+
+    stays : (name : ForkName) → name.tty.0 ≢ t.0 → (o : Option Fork) → map.get m name ≡ o → option_map (of_job change t) o ≡ o
+    stays name other None is = refl
+    stays name other (Some f) is = ap Some (others_alone change t f (λ here. other (sym (ap (λ (n : ForkName). n.tty.0) (own name f is)) ∙ here)))
 
 pub waiters_job : (m : ForkMap) → AreOwn m → (t : Tty) → JobChanged t m (waiters_woken m t)
 unfolding waiters_woken
-waiters_job m own t = changed_in_job t unwaited (λ f. refl) (range_with_len 1 MOST_FORKS) m own
+waiters_job m own t = job_changed_job t unwaited (λ f. refl) m own
 
 pub readers_job : (m : ForkMap) → AreOwn m → (t : Tty) → JobChanged t m (readers_woken m t)
 unfolding readers_woken
-readers_job m own t = changed_in_job t unread (λ f. refl) (range_with_len 1 MOST_FORKS) m own
+readers_job m own t = job_changed_job t unread (λ f. refl) m own
 
 -- an end is told
 pub told_job : (m : ForkMap) → AreOwn m → (f : Fork) → JobChanged f.name.tty m (end_told m f)

@@ -10,7 +10,7 @@ use Rattle.machine_names.specs.declared.character.TheConstants.{CARRIAGE_RETURN,
 use Rattle.machine_names.specs.declared.names.Access.{Access}
 use Rattle.machine_names.specs.declared.names.ForkName.{ForkName}
 use Rattle.machine_names.specs.declared.names.PageName.{PageName}
-use Rattle.machine_names.specs.declared.names.TheConstants.{MOST_FORKS, SPACE_PAGES}
+use Rattle.machine_names.specs.declared.names.TheConstants.{SPACE_PAGES}
 use Rattle.machine_names.specs.declared.names.Tty.{Tty}
 use Rattle.plain_typing.specs.declared.command.Command.{Command}
 use Rattle.plain_typing.specs.declared.command.Command.TheVariants as command
@@ -28,7 +28,7 @@ use Rattle.plain_model.specs.declared.fork.TerminalMode.TheVariants.{Program}
 use Rattle.plain_model.specs.State.{PlainState, PlainJob}
 use Rattle.plain_model.specs.Forks.{change_fork, first_regs, psi_at_rest, with_fork, with_status}
 use Rattle.plain_model.specs.Trees.{tree_of, with_body, with_changed_of, with_mark}
-use Rattle.plain_model.specs.ForkCalls.{ForkParts, killed, without_below}
+use Rattle.plain_model.specs.ForkCalls.{ForkParts, killed, without_inferiors}
 use Rattle.plain_model.specs.FileCalls.{times_held}
 use Rattle.plain_model.specs.InterruptCalls.{living_codes}
 use Rattle.plain_model.specs.FileEvents.{page_named}
@@ -120,7 +120,7 @@ begun_at address f = with_mark false (with_body (with_program_body address f.bod
 
 -- a fork without its inferiors, which begins the program in a file at an address
 abbrev pub with_program_run : {K : Type 0} {file_cmp : K → K → Ordering} → ForkParts file_cmp → ForkName → K → ℕ → ForkParts file_cmp
-with_program_run v top file address = let alone = without_below MOST_FORKS top v in
+with_program_run v top file address = let alone = without_inferiors v top in
     record { tree = with_changed_of alone.tree top (begun_at address); pages = with_program SPACE_PAGES alone.pages top file }
 
 -- the forks and the pages of the state, and the state with others

@@ -1,5 +1,5 @@
 -- The fork calls (JSYS Manual): CFORK, KFORK, FFORK, RFORK, RFSTS, SFORK, SFACS, RFACS, HFORK, WFORK, HALTF.
-use Rattle.std.specs.Prelude.{ℕ, zero, suc, ◌+◌, List, [], ◌∷◌, Bool, true, false, nat_lt, ◌==◌, if◌then◌else◌, None, Result, Ok, Err, replicate, slice_set}
+use Rattle.std.specs.Prelude.{ℕ, ◌+◌, List, [], ◌∷◌, Bool, true, false, not, ◌||◌, nat_lt, ◌==◌, if◌then◌else◌, None, Result, Ok, Err, replicate, slice_set}
 use Rattle.std.specs.Option.{option_map, option_map_or}
 use Rattle.std.specs.declared.cmp.Ordering.{Ordering}
 use Rattle.std.specs.FinMap as map
@@ -10,7 +10,7 @@ use Rattle.plain_model.specs.declared.call.End.{End}
 use Rattle.plain_model.specs.declared.call.End.TheVariants.{Done, Waits, Halts, Failed}
 use Rattle.plain_model.specs.declared.call.ForkChange.{ForkChange}
 use Rattle.plain_model.specs.declared.call.ForkChange.TheVariants.{Nothing, Make, Kill, Freeze, Become, Halt, Store}
-use Rattle.machine_names.specs.declared.names.TheConstants.{ACCUMULATORS, LAST_SERIAL, MOST_FORKS}
+use Rattle.machine_names.specs.declared.names.TheConstants.{ACCUMULATORS, LAST_SERIAL}
 use Rattle.machine_names.specs.declared.names.ForkName.{ForkName}
 use Rattle.machine_names.specs.declared.names.Kind.TheVariants.{Read, Write}
 use Rattle.plain_pages.specs.declared.map.NewMap.{NewMap}
@@ -22,13 +22,13 @@ use Rattle.script_texts.specs.declared.status.ForkStatus.{ForkStatus}
 use Rattle.script_texts.specs.declared.status.ForkStatus.TheVariants.{Run, Wait, Halted, Forced}
 use Rattle.script_texts.specs.declared.status.WaitOn.TheVariants as on
 use Rattle.plain_pages.specs.PlainPages.{PlainPages}
-use Rattle.plain_pages.specs.References.{without_fork}
+use Rattle.plain_pages.specs.Room.{uses}
 use Rattle.plain_model.specs.Forks.{ForkMap, first_regs, no_levels, with_status}
 use Rattle.machine_names.specs.Orders.{same_fork}
 use Rattle.plain_units.specs.Steps.{is_accumulator}
 use Rattle.plain_units.specs.Deeds.{flags_half, in_ac, pc_word, skip_pc}
 use Rattle.plain_model.specs.Handles.{named}
-use Rattle.plain_model.specs.Inferiors.{is_inferior, last_below}
+use Rattle.plain_model.specs.Inferiors.{is_in_branch, is_inferior}
 use Rattle.plain_model.specs.Trees.{PlainTree, next_serial, next_name, free_slot, new_fork, with_made, with_changed_of, with_body, with_mark, waiters_woken, end_told}
 use Rattle.plain_model.specs.AccessWords.{bit_word}
 use Rattle.plain_model.specs.Calls.{Asked, Turn, adds, ends, with_ac, and_then, returning, given, numbered, with_block}
@@ -197,18 +197,25 @@ pub record ForkParts {K : Type 0} (file_cmp : K → K → Ordering) : Type 0 whe
   pub pages : PlainPages file_cmp
 
 module _ {K : Type 0} {file_cmp : K → K → Ordering} where
-  -- without a fork and its map; a page that loses its last name is dropped
-  abbrev pub without : ForkParts file_cmp → ForkName → ForkParts file_cmp
-  without v f = record { tree = record v.tree { forks = map.remove v.tree.forks f }; pages = without_fork v.pages f }
+  -- changed pages without those that the change has taken the last name
+  abbrev pub still_named : PlainPages file_cmp → PlainPages file_cmp → PlainPages file_cmp
+  still_named old new = record new { objects = map.retain_keys new.objects (λ n. (uses old n == 0) || nat_lt 0 (uses new n)) }
 
-  -- without a fork's inferiors, so many of them at most: each time the last goes that has none itself
-  unfoldable pub without_below : ℕ → ForkName → ForkParts file_cmp → ForkParts file_cmp
-  without_below zero f v = v
-  without_below (suc n) f v = option_map_or (λ k. without_below n f (without v k.name)) (last_below v.tree.forks f) v
+  -- pages without the maps of some forks; those that lose their last name are dropped
+  unfoldable pub without_maps : PlainPages file_cmp → (ForkName → Bool) → PlainPages file_cmp
+  without_maps p goes = still_named p (record p { maps = map.retain_keys p.maps (λ f. not (goes f)) })
 
-  -- without a fork and all below it
-  abbrev pub killed : ForkParts file_cmp → ForkName → ForkParts file_cmp
-  killed v f = without (without_below MOST_FORKS f v) f
+  -- without some forks and their maps
+  abbrev pub without_all : ForkParts file_cmp → (ForkName → Bool) → ForkParts file_cmp
+  without_all v goes = record { tree = record v.tree { forks = map.retain_keys v.tree.forks (λ f. not (goes f)) }; pages = without_maps v.pages goes }
+
+  -- without the inferiors of a fork
+  unfoldable pub without_inferiors : ForkParts file_cmp → ForkName → ForkParts file_cmp
+  without_inferiors v f = without_all v (is_inferior v.tree.forks f)
+
+  -- without a fork and its inferiors
+  unfoldable pub killed : ForkParts file_cmp → ForkName → ForkParts file_cmp
+  killed v f = without_all v (is_in_branch v.tree.forks f)
 
   -- with other forks
   abbrev pub with_forks : ForkParts file_cmp → ForkMap → ForkParts file_cmp

@@ -1,12 +1,12 @@
 -- The forks of all jobs with their serials: how a fork is made, is changed, and stops (CACM paper, "Forks").
-use Rattle.std.specs.Prelude.{ℕ, ◌+◌, List, [], ◌∷◌, Bool, Option, find, if◌then◌else◌, is_none, nat_le, slice_index, slice_set}
+use Rattle.std.specs.Prelude.{ℕ, ◌+◌, List, map as each, Bool, Option, find, if◌then◌else◌, is_none, nat_le, ◌==◌, slice_index, slice_set}
 use Rattle.std.specs.List.{range_with_len}
 use Rattle.std.specs.Option.{option_map_or}
 use Rattle.std.specs.FinMap as map
 use Rattle.plain_units.specs.declared.channel.TheConstants.{INFERIOR_ENDED}
 use Rattle.machine_names.specs.declared.names.Tty.{Tty}
 use Rattle.machine_names.specs.declared.names.ForkName.{ForkName}
-use Rattle.machine_names.specs.declared.names.TheConstants.{MOST_FORKS, TERMINALS}
+use Rattle.machine_names.specs.declared.names.TheConstants.{MOST_FORKS}
 use Rattle.plain_model.specs.declared.fork.Fork.{Fork}
 use Rattle.plain_model.specs.declared.fork.Body.{Body}
 use Rattle.script_texts.specs.declared.status.ForkStatus.{ForkStatus}
@@ -71,18 +71,17 @@ without_wait status = status
 abbrev pub unwaited : Fork → Fork
 unwaited f = with_status f (without_wait f.body.status)
 
--- the forks in these slots of a job changed, in order
-abbrev pub changed_in : (Fork → Fork) → ForkMap → Tty → List ℕ → ForkMap
-changed_in change forks t [] = forks
-changed_in change forks t (slot ∷ slots) = changed_in change (changed forks change (fork_in forks t slot)) t slots
+-- each fork changed
+abbrev pub all_changed : (Fork → Fork) → ForkMap → ForkMap
+all_changed change forks = map.from_entries (each (λ e. (e.0, change e.1)) (map.entries forks))
 
--- of these slots of a job, in order, who waits for a fork runs again
-abbrev pub woken_in : ForkMap → Tty → List ℕ → ForkMap
-woken_in forks t slots = changed_in unwaited forks t slots
+-- each fork of a job changed
+abbrev pub job_changed : (Fork → Fork) → Tty → ForkMap → ForkMap
+job_changed change t forks = all_changed (λ f. if f.name.tty.0 == t.0 then change f else f) forks
 
 -- a fork of a job has ended: who waits for a fork of that job runs again
 unfoldable pub waiters_woken : ForkMap → Tty → ForkMap
-waiters_woken forks t = woken_in forks t (range_with_len 1 MOST_FORKS)
+waiters_woken forks t = job_changed unwaited t forks
 
 -- who waits for a character runs again
 abbrev pub without_read : ForkStatus → ForkStatus
@@ -94,7 +93,7 @@ unread f = with_status f (without_read f.body.status)
 
 -- a character is stored for a job: whoever waits for one runs again
 unfoldable pub readers_woken : ForkMap → Tty → ForkMap
-readers_woken forks t = changed_in unread forks t (range_with_len 1 MOST_FORKS)
+readers_woken forks t = job_changed unread t forks
 
 -- who sleeps to a moment that the clock has reached runs again
 abbrev pub without_sleep : ℕ → ForkStatus → ForkStatus
@@ -104,18 +103,9 @@ without_sleep clock status = status
 abbrev pub awoken : ℕ → Fork → Fork
 awoken clock f = with_status f (without_sleep clock f.body.status)
 
--- so of each fork of a job, by slot
-unfoldable pub job_awoken : ℕ → ForkMap → Tty → ForkMap
-job_awoken clock forks t = changed_in (awoken clock) forks t (range_with_len 1 MOST_FORKS)
-
--- and of each fork of the jobs at these terminals, in order
-abbrev pub awoken_at : ℕ → ForkMap → List ℕ → ForkMap
-awoken_at clock forks [] = forks
-awoken_at clock forks (t ∷ ts) = awoken_at clock (job_awoken clock forks (record { 0 = t })) ts
-
--- the clock has come to a moment: each sleeper whose moment it reaches runs again, by terminal and slot
+-- the clock has come to a moment: each sleeper whose moment it reaches runs again
 unfoldable pub sleepers_awoken : ℕ → ForkMap → ForkMap
-sleepers_awoken clock forks = awoken_at clock forks (range_with_len 0 TERMINALS)
+sleepers_awoken clock forks = all_changed (awoken clock) forks
 
 -- a fork has halted or was forced: who waits for a fork of its job runs again, and then its superior is told by a channel
 abbrev pub end_told : ForkMap → Fork → ForkMap

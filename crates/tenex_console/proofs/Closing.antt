@@ -30,14 +30,14 @@ use Rattle.texts.specs.declared.last.Status.{Status}
 use Rattle.texts.specs.declared.last.Status.TheVariants.{Script, DrumFault, ReadFault, WriteFault, LongScript}
 use Rattle.texts.specs.Ends.{closing_line, end_line, record_end}
 use Rattle.texts.specs.Wrote.{WrotePartly}
-use Rattle.texts.specs.Writer.{Stands, IsCutWithin, Finishes, FailsAtEnd, Keeps}
+use Rattle.texts.specs.Writer.{Stands, IsCutWithin, IsFinished, Finishes, FailsAtEnd, Keeps}
 use Rattle.texts.proofs.Starts.{stands_start}
 use Rattle.tenex_console.specs.declared.asked.Unbegun.{Unbegun}
 use Rattle.tenex_console.specs.declared.driver.Driven.{Driven}
 use Rattle.tenex_console.specs.declared.driver.Driven.TheVariants.{Done as WholeScript, Bad, Long, ReadFault as Unread, DrumFault as Unpaged, TakerFault}
 use Rattle.tenex_console.specs.Runs.{AreBroken, AreEntries, RunsTo, ShowsTo}
 use Rattle.tenex_console.specs.Driving.{Handed, IsBooted, OpensOver, RanTo}
-use Rattle.tenex_console.specs.Headline.{AreAll, DrivenTo, Fronts, Headline, Part, Stops, closing, done_transcript, last_after, last_done, status_of}
+use Rattle.tenex_console.specs.Headline.{DrivenTo, Fronts, Headline, IsRunOf, Part, Stops, closing, generated_transcript, last_after, last_done, script_transcript, status_of}
 use Rattle.tenex_console.specs.Verdicts.{AreRun}
 use Rattle.tenex_console.specs.Observed.{Observed, seen}
 use Rattle.tenex_console.specs.Statuses.{Ran, status_after}
@@ -189,49 +189,55 @@ module _ {M S T R D : Type 0} {flat : Bool} {fits : M → DrumWords → Type 0} 
   counted : (driven : Driven) (last : Last) → last_after driven request.events told.reads told.writes ≡ Some last → (ran : Drove driven) → v.tally ≡ tally (ran.told words opens).items ran.entries
   counted driven last is ran = (stood driven last is ran).tallied fresh
 
-  -- the transcript that is done, with the line of counts of a generated script
-  whole_transcript : (events : EventSource) (items shown : List Item) (entries : List Step) → items ≡ shown → v.tally ≡ tally items entries
-      → Grows told.out told.out_after (transcript items ++ end_line (last_done events told.reads told.writes) v.tally) → Grows told.out told.out_after (done_transcript events shown entries)
-  whole_transcript ReadScript items shown entries are counts grows = subst (λ is. Grows told.out told.out_after (transcript is)) are (grows_alone told.out told.out_after (transcript items) grows)
-  whole_transcript (Generated seed) items shown entries are counts grows =
-      subst (λ is. Grows told.out told.out_after (done_transcript (Generated seed) is entries)) are
-      (subst (λ t. Grows told.out told.out_after (transcript items ++ end_line (Summary told.reads told.writes) t)) counts grows)
-
   whole_record : (events : EventSource) (entries : List Step) → Grows told.rec told.rec_after (entries_text entries ++ record_end (last_done events told.reads told.writes)) → Grows told.rec told.rec_after (record_text entries told.reads told.writes)
   whole_record ReadScript entries grows = grows
   whole_record (Generated seed) entries grows = grows
 
-  -- all events that are asked for were run
-  all_run : (source : EventSource) (events : List Event) → AreRun source told.script told.script_after WholeScript events → AreAll source told events
-  all_run ReadScript events f = λ bytes is.
-      let found = f.each bytes is in
-      let all : found.0 ≡ bytes = sym (found.2 ∙ (ap (λ rest. found.0 ++ rest) found.4.1 ∙ append-nil found.0)) in
-      (subst (λ b. IsScript b events) all found.4.0, found.3 ∙ ap Some found.4.1)
-  all_run (Generated seed) events f = f
+  module _ (few_reads : told.reads < 2 ^ 64) (few_writes : told.writes < 2 ^ 64) (ran : Drove WholeScript) (finishes : Finishes out_taken rec_taken (last_done request.events told.reads told.writes) v u) where
+    abbrev shown : List Item
+    shown = (ran.told words opens).items
 
-  headline : told.reads < 2 ^ 64 → told.writes < 2 ^ 64 → Drove WholeScript → Finishes out_taken rec_taken (last_done request.events told.reads told.writes) v u → Headline request told
-  headline few_reads few_writes ran finishes =
-      let given = ran.told words opens in
-      let last = last_done request.events told.reads told.writes in
-      let ends = finishes.each w given.items ran.entries (stood WholeScript last refl ran) in
-      let entries = runs_flat WholeScript ran in
-      record {
-        events = ran.events;
-        entries = ran.entries;
-        all = all_run request.events ran.events ran.found;
-        follows = entries.follows;
-        legal = whole_legal entries;
-        fair = entries.fair;
-        transcript_is = whole_transcript request.events given.items _ ran.entries entries.shown (counted WholeScript last refl ran) ends.out;
-        record_is = whole_record request.events ran.entries ends.rec;
-        fits = record { fit = opened_fit true request.sizes.drum ran.events ran.entries ran.fit entries.follows entries.legal; few = omega (arith, ran.few); few_reads = few_reads; few_writes = few_writes };
-      }
+    ends : IsFinished out_taken rec_taken (last_done request.events told.reads told.writes) v.tally w u shown ran.entries
+    ends = finishes.each w shown ran.entries (stood WholeScript (last_done request.events told.reads told.writes) refl ran)
+
+    -- the machine ran the events, where the transcript is this text of what it showed
+    run_of : (text : List Item → List Step → List ℕ) → Grows told.out told.out_after (text shown ran.entries) → IsRunOf ran.events text request.sizes.drum told
+    run_of text grows =
+        let entries = runs_flat WholeScript ran in
+        record {
+          entries = ran.entries;
+          follows = entries.follows;
+          legal = whole_legal entries;
+          fair = entries.fair;
+          transcript_is = subst (λ items. Grows told.out told.out_after (text items ran.entries)) entries.shown grows;
+          record_is = whole_record request.events ran.entries ends.rec;
+          fits = record { fit = opened_fit true request.sizes.drum ran.events ran.entries ran.fit entries.follows entries.legal; few = omega (arith, ran.few); few_reads = few_reads; few_writes = few_writes };
+        }
+
+    headline : (events : EventSource) → request.events ≡ events → Headline events request.sizes.drum told
+    headline ReadScript is = record {
+      events = ran.events;
+      all = λ bytes left_are.
+          let found = (subst (λ e. AreRun e told.script told.script_after WholeScript ran.events) is ran.found).each bytes left_are in
+          let all : found.0 ≡ bytes = sym (found.2 ∙ (ap (λ rest. found.0 ++ rest) found.4.1 ∙ append-nil found.0)) in
+          (subst (λ b. IsScript b ran.events) all found.4.0, found.3 ∙ ap Some found.4.1);
+      run = run_of script_transcript (grows_alone told.out told.out_after (transcript shown) (subst (λ e. Grows told.out told.out_after (transcript shown ++ end_line (last_done e told.reads told.writes) v.tally)) is ends.out));
+    }
+    headline (Generated seed) is =
+        let found = subst (λ e. AreRun e told.script told.script_after WholeScript ran.events) is ran.found in
+        let line = subst (λ e. Grows told.out told.out_after (transcript shown ++ end_line (last_done e told.reads told.writes) v.tally)) is ends.out in
+        let counts : v.tally ≡ tally shown ran.entries = counted WholeScript (last_done request.events told.reads told.writes) refl ran in
+        record {
+          unread = found.1;
+          run = subst (λ es. IsRunOf es generated_transcript request.sizes.drum told) found.0
+              (run_of generated_transcript (subst (λ t. Grows told.out told.out_after (transcript shown ++ end_line (Summary told.reads told.writes) t)) counts line));
+        }
 
   -- both texts were closed with their last lines
   ended : (driven : Driven) (last : Last) → last_after driven request.events told.reads told.writes ≡ Some last → told.reads < 2 ^ 64 → told.writes < 2 ^ 64 → Drove driven → Finishes out_taken rec_taken last v u → Ran request told (status_after driven)
   ended WholeScript last is few_reads few_writes ran fin =
       let this : last ≡ last_done request.events told.reads told.writes = cc is in
-      headline few_reads few_writes ran (subst (λ l. Finishes out_taken rec_taken l v u) this fin)
+      headline few_reads few_writes ran (subst (λ l. Finishes out_taken rec_taken l v u) this fin) request.events refl
   ended (Bad n) last is few_reads few_writes ran fin =
       let this : last ≡ Stopped Script n = cc is in
       (n, part (Bad n) Script n refl ran (subst (λ l. Finishes out_taken rec_taken l v u) this fin))

@@ -32,35 +32,46 @@ use Rattle.tenex_console.specs.Verdicts.{AreRun}
 use Rattle.tenex_console.specs.Observed.{Observed}
 use Rattle.tenex_console.specs.Runs.{FollowsTo, ShowsTo}
 
--- all events that are asked for: those of the script, which is read to its end; or those of the generated script, and
--- then no byte of the other is read
-abbrev pub AreAll : EventSource → Observed → List Event → Type 0
-AreAll ReadScript told events = (bytes : List ℕ) → told.script ≡ Some bytes → IsScript bytes events × (told.script_after ≡ Some [])
-AreAll (Generated seed) told events = (events ≡ big_events seed) × (told.script_after ≡ told.script)
-
--- the transcript of a run that is done: behind that of a generated script stands the line of its counts
-abbrev pub done_transcript : EventSource → List Item → List Step → List ℕ
-done_transcript ReadScript items entries = transcript items
-done_transcript (Generated seed) items entries = transcript items ++ tally_line (tally items entries)
-
--- The transcript is that of the plain machine over the entries that the record has: the events that are asked for,
--- in order, each RUN n being n units of forks that can run, or idle entries while none can; and a fork that can run
--- is not passed over for long within a RUN. No other entries have this record, whose last line tells how often the
--- drum was read and written.
-pub record Headline (request : Request) (told : Observed) : Type 0 where
-  pub events : List Event
+-- THE MACHINE'S RUN: the entries that the record has are those of the events, in order, each RUN n being n units of forks that can
+-- run, or idle entries while none can; a fork that can run is not passed over for long within a RUN; and the transcript is a text of
+-- what the plain machine shows over the entries. No other entries have this record, whose last line tells how often the drum was read
+-- and written.
+pub record IsRunOf (events : List Event) (text : List Item → List Step → List ℕ) (limit : ℕ) (told : Observed) : Type 0 where
   pub entries : List Step
-  pub all : AreAll request.events told events
   pub follows : Follows events entries
-  pub legal : AreLegal true (opening request.sizes.drum) entries
-  pub fair : AreFair (opening request.sizes.drum) events entries follows
-  pub transcript_is : Grows told.out told.out_after (done_transcript request.events (items_of (opening request.sizes.drum) entries) entries)
+  pub legal : AreLegal true (opening limit) entries
+  pub fair : AreFair (opening limit) events entries follows
+  pub transcript_is : Grows told.out told.out_after (text (items_of (opening limit) entries) entries)
   pub record_is : Grows told.rec told.rec_after (record_text entries told.reads told.writes)
   pub fits : FitsRecord entries told.reads told.writes
 
+-- the transcript of a script
+abbrev pub script_transcript : List Item → List Step → List ℕ
+script_transcript items entries = transcript items
+
+-- THE HEADLINE OF run: the events are those of the script, which is read to its end
+pub record RunsScript (limit : ℕ) (told : Observed) : Type 0 where
+  pub events : List Event
+  pub all : (bytes : List ℕ) → told.script ≡ Some bytes → IsScript bytes events × (told.script_after ≡ Some [])
+  pub run : IsRunOf events script_transcript limit told
+
+-- the transcript of a generated script: behind that of a script stands the line of its counts
+abbrev pub generated_transcript : List Item → List Step → List ℕ
+generated_transcript items entries = transcript items ++ tally_line (tally items entries)
+
+-- THE HEADLINE OF big: the events are those of the generated script, and no byte of the other is read
+pub record RunsGenerated (seed limit : ℕ) (told : Observed) : Type 0 where
+  pub unread : told.script_after ≡ told.script
+  pub run : IsRunOf (big_events seed) generated_transcript limit told
+
+-- the headline, by whose events are asked for
+abbrev pub Headline : EventSource → ℕ → Observed → Type 0
+Headline ReadScript limit told = RunsScript limit told
+Headline (Generated seed) limit told = RunsGenerated seed limit told
+
 -- the words ask for a run, of which the headline holds
 abbrev pub HasHeadline : {Z : Type 0} → List (String Z) → Observed → Type 0
-HasHeadline words told = (request : Request) × Ask words request × Headline request told
+HasHeadline words told = (request : Request) × Ask words request × Headline request.events request.sizes.drum told
 
 -- The events were driven so far over all pages in memory: these events, their legal entries, and what was shown.
 pub record DrivenTo (driven : Driven) (request : Request) (told : Observed) : Type 0 where

@@ -1,6 +1,7 @@
 -- A run in memory, where all is told.
 use Rattle.std.specs.Prelude.{◌≡◌, ℕ, ◌-◌, List, ◌++◌, true, String}
 use Rattle.script_texts.specs.declared.event.Event.{Event}
+use Rattle.script_texts.specs.declared.event.Item.{Item}
 use Rattle.script_texts.specs.declared.event.Step.{Step}
 use Rattle.plain_model.specs.State.{opening}
 use Rattle.script_texts.specs.Entries.{FitsRecord}
@@ -16,12 +17,17 @@ use Rattle.command_words.specs.declared.request.EventSource.{EventSource}
 use Rattle.command_words.specs.declared.request.EventSource.TheVariants.{Script, Generated}
 use Rattle.command_words.specs.declared.request.Request.{Request}
 use Rattle.command_words.specs.Words.{Ask}
-use Rattle.tenex_console.specs.Headline.{done_transcript}
+use Rattle.tenex_console.specs.Headline.{generated_transcript, script_transcript}
 
 -- these bytes are lines that spell the events, or the events are those of the generated script that is asked for
 abbrev pub AreSpelled : EventSource → List ℕ → List Event → Type 0
 AreSpelled Script script events = IsScript script events
 AreSpelled (Generated seed) script events = events ≡ big_events seed
+
+-- the transcript of a script, or of a generated one
+abbrev pub whole_transcript : EventSource → List Item → List Step → List ℕ
+whole_transcript Script items entries = script_transcript items entries
+whole_transcript (Generated seed) items entries = generated_transcript items entries
 
 -- The headline in bytes: the events are those that are asked for, and behind what both sinks had stand the
 -- transcript of the plain machine and the record of the entries, with how often the drum was read and written.
@@ -34,6 +40,6 @@ pub record HeadlineInBytes {Z : Type 0} (words : List (String Z)) (script : List
   pub follows : Follows events entries
   pub legal : AreLegal true (opening request.sizes.drum) entries
   pub fair : AreFair (opening request.sizes.drum) events entries follows
-  pub transcript_is : out'.bytes.items ≡ out.bytes.items ++ done_transcript request.events (items_of (opening request.sizes.drum) entries) entries
+  pub transcript_is : out'.bytes.items ≡ out.bytes.items ++ whole_transcript request.events (items_of (opening request.sizes.drum) entries) entries
   pub record_is : rec'.bytes.items ≡ rec.bytes.items ++ record_text entries (drum'.held.reads - drum.held.reads) (drum'.held.writes - drum.held.writes)
   pub fits : FitsRecord entries (drum'.held.reads - drum.held.reads) (drum'.held.writes - drum.held.writes)

@@ -16,7 +16,7 @@ use Rattle.tenex_console.specs.Observed.{Observed}
 
 -- what was told of a run that was asked for like this, began and has this status
 abbrev pub Ran : Request → Observed → Status → Type 0
-Ran request told Done = Headline request told
+Ran request told Done = Headline request.events request.sizes.drum told
 Ran request told Usage = ⊥
 Ran request told Script = (n : ℕ) × Part (Bad n) (closing_line Script n) request told
 Ran request told DrumFault = Part Unpaged (closing_line DrumFault 0) request told

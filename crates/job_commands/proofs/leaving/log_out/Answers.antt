@@ -1,5 +1,6 @@
 use Rattle.std.proofs.Common.{◌≡◌, ◌+◌, None, Some, refl, sym, ◌∙◌, ap, subst, arith}
 use Rattle.std.specs.Option.{option_map}
+use Rattle.std.specs.Ordering.{nat_cmp}
 use Rattle.std.specs.FinMap as map
 use Rattle.machine_names.specs.declared.names.ForkName.{ForkName}
 use Rattle.plain_model.specs.declared.fork.Fork.{Fork}
@@ -7,12 +8,27 @@ use Rattle.plain_model.specs.Forks.{ForkMap, OthersStay}
 use Rattle.plain_model.specs.Trees.{PlainTree}
 use Rattle.plain_model.proofs.ForkMaps.{get_gone, get_gone_other}
 use Rattle.plain_model.proofs.OtherJobs.{gone_others, others_on}
+use Rattle.plain_model.specs.ForkCalls.{ForkParts}
+use Rattle.fork_tree.specs.Inferiors.{without}
 use Rattle.fork_tree.proofs.Kept.{top_lives}
+use Rattle.fork_tree.proofs.Killing.{killed_last}
 use Rattle.ka10_spots.proofs.Stored.{lost_on}
+use Rattle.job_forks.specs.Holding.{parts}
 use Rattle.job_forks.proofs.Branch.{made_on}
 use Rattle.job_forks.proofs.Places.{come_on}
 use Rattle.job_commands.proofs.Tops.{top_is}
 use Rattle.job_commands.proofs.leaving.log_out.Goals as goal
+
+-- the fork itself goes last
+pub returns-clause-told : goal.returns-clause-told
+returns-clause-told g c d fits =
+    let means = g.P.Pages.means in
+    let v : ForkParts nat_cmp = parts c.args.tree.now (means.plain c.args.pages.now d) in
+    let first = c.kill_inferiors.ensures.told d fits in
+    let last = c.kill_bare.ensures.told d first.0 in
+    let gone : parts c.kill_bare.new.tree (means.plain c.kill_bare.new.pages d) ≡ without (parts c.kill_inferiors.new.tree (means.plain c.kill_inferiors.new.pages d)) c.args.top =
+    λ i. record { tree = c.kill_bare.ensures.tree i; pages = last.1 i } in
+    (last.0, gone ∙ ap (λ (u : ForkParts nat_cmp). without u c.args.top) (sym first.1) ∙ sym (killed_last v c.args.top))
 
 pub returns-clause-leaves : goal.returns-clause-leaves
 returns-clause-leaves g c =

@@ -1,22 +1,22 @@
-use Rattle.std.proofs.Common.{◌≡◌, ℕ, ◌+◌, ◌-◌, ◌<◌, Some, None, refl, sym, ◌∙◌, ap, subst, arith, inl, inr}
+use Rattle.std.proofs.Common.{◌≡◌, ◌<◌, refl, sym, ◌∙◌, ap, subst, arith, inl, inr}
 use Rattle.std.specs.Prelude.{IsSome}
-use Rattle.std.specs.Option.{option_map}
 use Rattle.std.specs.Ordering.{nat_cmp}
 use Rattle.std.specs.FinMap as map
 use Rattle.machine_names.specs.declared.names.ForkName.{ForkName}
 use Rattle.plain_model.specs.Forks.{ForkMap, OthersStay}
-use Rattle.plain_model.specs.Inferiors.{is_inferior, last_below}
+use Rattle.plain_model.specs.Inferiors.{is_inferior}
 use Rattle.plain_model.specs.Trees.{PlainTree}
-use Rattle.plain_model.specs.ForkCalls.{ForkParts, without, without_below}
+use Rattle.plain_model.specs.ForkCalls.{ForkParts, without_inferiors}
 use Rattle.plain_model.proofs.ForkMaps.{get_gone_other}
 use Rattle.plain_model.proofs.OtherJobs.{gone_others, others_itself, others_on}
-use Rattle.fork_tree.specs.Inferiors.{HasNoInferior}
-use Rattle.fork_tree.proofs.Killing.{below_in, fewer_counted, last_once, none_counted}
+use Rattle.fork_tree.specs.Inferiors.{HasNoInferior, without}
+use Rattle.fork_tree.proofs.Killing.{below_in, fewer_counted, leaf_first, none_counted, without_none}
 use Rattle.fork_tree.proofs.Upward.{tally, tally_most}
 use Rattle.ka10_spots.proofs.Stored.{lost_none, lost_on}
-use Rattle.job_forks.specs.Holding.{TopsStay, parts}
+use Rattle.job_forks.specs.Holding.{TopsStay}
 use Rattle.job_forks.specs.Killing.{AreMapsHere, GoesWith}
-use Rattle.job_forks.proofs.Branch.{below_end, below_over, below_step, made_on, none_made, below_younger, one_less, told_last, told_none}
+use Rattle.job_forks.specs.Holding.{parts}
+use Rattle.job_forks.proofs.Branch.{below_younger, made_on, none_made}
 use Rattle.job_forks.proofs.CallLeaving.{below_job}
 use Rattle.job_forks.proofs.Maps.{fewer_go}
 use Rattle.job_forks.proofs.Places.{came_itself, come_on}
@@ -60,8 +60,6 @@ loop-round-preserved g c =
     let name = c.in-Some.name in
     let k = c.in-Some.ensures in
     let gone = ap (λ (t : PlainTree). t.forks) c.kill_bare.ensures.tree in
-    let named : Some name ≡ option_map (λ f. f.name) (last_below tree.forks who) = last_once tree is who (Some name) k in
-    let last = told_last (last_below tree.forks who) name named in
     let younger = below_younger tree is who k.fork k.leaf.lives k.leaf.below in
     let fewer = fewer_counted who tree is k.fork k.leaf in
     let fewer_at : tally (below_in (map.remove tree.forks name) who) 1 30 < tally (below_in tree.forks who) 1 30 =
@@ -91,13 +89,8 @@ loop-round-preserved g c =
           let n = c.kill_bare.ensures.told d t.0 in
           let p = means.plain c.loop-round.pages d in
           let after : parts c.kill_bare.new.tree (means.plain c.kill_bare.new.pages d) ≡ without (parts tree p) name = λ i. record { tree = c.kill_bare.ensures.tree i; pages = n.1 i } in
-          let left = 30 - (c.loop-round._round + 1) in (
-            n.0,
-            ap (λ (v : ForkParts nat_cmp). without_below left who v) after
-                ∙ sym (below_step who left (parts tree p) last.0 last.1 ∙ ap (λ (m : ForkName). without_below left who (without (parts tree p) m)) last.2)
-                ∙ sym (ap (λ (m : ℕ). without_below m who (parts tree p)) (one_less c.loop-round._round c.loop-round-test.true))
-                ∙ t.1,
-          );
+          let first = subst (λ (m : ForkName). without_inferiors (without (parts tree p) m) who ≡ without_inferiors (parts tree p) who) k.named (leaf_first (parts tree p) who k.fork is k.leaf) in
+          (n.0, ap (λ (v : ForkParts nat_cmp). without_inferiors v who) after ∙ first ∙ t.1);
     }
 
 pub returns-in-None-clause-maps : goal.returns-in-None-clause-maps
@@ -107,16 +100,17 @@ pub returns-in-None-clause-told : goal.returns-in-None-clause-told
 returns-in-None-clause-told g c d fits =
     let tree = c.loop-round.tree in
     let t = c.loop-round.invariant.told d fits in
-    let none = told_none (last_below tree.forks c.args.who) (last_once tree c.are_trees.ensures c.args.who None c.in-None.ensures) in
-    (t.0, sym t.1 ∙ below_over c.args.who (30 - c.loop-round._round) (parts tree (g.P.Pages.means.plain c.loop-round.pages d)) none)
+    (t.0, sym t.1 ∙ without_none (parts tree (g.P.Pages.means.plain c.loop-round.pages d)) c.args.who c.in-None.ensures)
 
 pub returns-clause-maps : goal.returns-clause-maps
 returns-clause-maps g c = c.loop-round.invariant.maps c.args.who (inl refl)
 
 pub returns-clause-told : goal.returns-clause-told
 returns-clause-told g c d fits =
+    let tree = c.loop-round.tree in
     let t = c.loop-round.invariant.told d fits in
-    (t.0, sym t.1 ∙ below_end c.args.who (30 - c.loop-round._round) (parts c.loop-round.tree (g.P.Pages.means.plain c.loop-round.pages d)) (omega arith))
+    let none = none_counted c.args.who tree c.are_trees-2.ensures (omega (arith, c.loop-round.invariant.few)) in
+    (t.0, sym t.1 ∙ without_none (parts tree (g.P.Pages.means.plain c.loop-round.pages d)) c.args.who none)
 
 pub returns-clause-bare : goal.returns-clause-bare
 returns-clause-bare g c = none_counted c.args.who c.loop-round.tree c.are_trees-2.ensures (omega (arith, c.loop-round.invariant.few))

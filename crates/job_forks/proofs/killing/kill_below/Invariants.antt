@@ -4,7 +4,7 @@ use Rattle.machine_names.specs.declared.names.ForkName.{ForkName}
 use Rattle.machine_names.specs.declared.names.Tty.{Tty}
 use Rattle.page_contracts.specs.DrumWords.{DrumWords}
 use Rattle.page_contracts.specs.Pages.{MayLose}
-use Rattle.plain_model.specs.ForkCalls.{without_below}
+use Rattle.plain_model.specs.ForkCalls.{without_inferiors}
 use Rattle.plain_model.specs.Forks.{OthersStay}
 use Rattle.fork_tree.proofs.Killing.{below_in}
 use Rattle.fork_tree.proofs.Upward.{tally}
@@ -24,5 +24,5 @@ invariant-loop-round g l = record {
   older : (q : ForkName) → q.serial ≤ l.who.serial → map.get l.tree.forks q ≡ map.get l.fn.tree.forks q;
   few : tally (below_in l.tree.forks l.who) 1 30 ≤ 30 - l._round;
   told : (d : DrumWords) → g.P.Pages.means.fits l.fn.pages d
-      → g.P.Pages.means.fits l.pages d × (without_below (30 - l._round) l.who (parts l.tree (g.P.Pages.means.plain l.pages d)) ≡ without_below 30 l.who (parts l.fn.tree (g.P.Pages.means.plain l.fn.pages d)));
+      → g.P.Pages.means.fits l.pages d × (without_inferiors (parts l.tree (g.P.Pages.means.plain l.pages d)) l.who ≡ without_inferiors (parts l.fn.tree (g.P.Pages.means.plain l.fn.pages d)) l.who);
 }

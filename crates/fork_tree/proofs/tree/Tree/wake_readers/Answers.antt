@@ -1,6 +1,4 @@
 use Rattle.std.proofs.Common.{◌∙◌, ap, subst, sym}
-use Rattle.std.specs.List.{range_with_len}
-use Rattle.machine_names.specs.declared.names.TheConstants.{MOST_FORKS}
 use Rattle.plain_model.specs.Trees.{PlainTree, readers_woken}
 use Rattle.fork_tree.specs.declared.notes.Awaited.TheVariants.{Character}
 use Rattle.fork_tree.specs.Waking.{NoneWaits}
@@ -20,4 +18,4 @@ pub returns-then-not-may_wait-clause-woken : goal.returns-then-not-may_wait-clau
 unfolding readers_woken
 returns-then-not-may_wait-clause-woken c =
     let tree = c.args.self.now in
-    ap (λ m. record tree { forks = m }) (sym (nobody_freed tree.forks c.are_trees.ensures.slotted c.args.tty Character c.if-not-may_wait.ensures (range_with_len 1 MOST_FORKS)))
+    ap (λ m. record tree { forks = m }) (sym (nobody_freed tree.forks c.are_trees.ensures.slotted c.args.tty Character c.if-not-may_wait.ensures))
