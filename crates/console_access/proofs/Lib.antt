@@ -1,5 +1,5 @@
 pub mod ShownWords
-mod Looks
+pub mod Looks
 mod Changing
 mod Making
 pub mod Writes
