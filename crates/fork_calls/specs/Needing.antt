@@ -1,5 +1,5 @@
 -- What a turn of a fork call needs first of pages of which some are in no frame.
-use Rattle.std.specs.Prelude.{◌≡◌, ◌⊎◌, ℕ, ◌+◌, true, None, Some}
+use Rattle.std.specs.Prelude.{◌≡◌, ℕ, ◌+◌}
 use Rattle.plain_model.specs.declared.call.End.{End}
 use Rattle.plain_model.specs.declared.call.End.TheVariants.{Done}
 use Rattle.plain_model.specs.declared.call.ForkChange.{ForkChange}
@@ -8,17 +8,13 @@ use Rattle.page_contracts.specs.declared.answers.Need.{Need}
 use Rattle.page_contracts.specs.declared.answers.Need.TheVariants as need
 use Rattle.machine_names.specs.declared.names.ForkName.{ForkName}
 use Rattle.plain_model.specs.Calls.{Turn, no_files}
-use Rattle.plain_model.specs.declared.call.Touched.{Touched}
-use Rattle.machine_names.specs.declared.names.Tty.{Tty}
-use Rattle.plain_pages.specs.References.{Spot}
-use Rattle.machine_names.specs.declared.names.Kind.{Kind}
 use Rattle.plain_units.specs.declared.registers.Regs.{Regs}
 use Rattle.plain_pages.specs.PlainPages.{NumberedPages}
 use Rattle.plain_model.specs.Forks.{ForkMap}
-use Rattle.plain_model.specs.Inferiors.{is_inferior}
 use Rattle.page_contracts.specs.Pages.{Scene}
 use Rattle.plain_units.specs.Steps.{Steps, Ending, begun, stopped, need as needs}
-use Rattle.call_turns.specs.Needing.{TurnNeeds as NeedsOf}
+use Rattle.call_turns.specs.Needing.{NoTouches, TurnNeeds as NeedsOf}
+use Rattle.job_forks.specs.Killing.{IsKilledAway}
 use Rattle.ka10_unit.specs.Gathers.{Framed}
 use Rattle.ka10_unit.specs.Taking.{most_frames, run_over}
 

@@ -1,5 +1,5 @@
 -- The first step of a fork call, and the whole turn that this comes to.
-use Rattle.std.specs.Prelude.{◌≡◌, ℕ, ◌+◌, Some, Ok, if◌then◌else◌, List}
+use Rattle.std.specs.Prelude.{◌≡◌, ℕ, ◌+◌, Ok, if◌then◌else◌, List}
 use Rattle.std.specs.FinMap as map
 use Rattle.plain_model.specs.declared.call.TheConstants.{FORK_SELF, NO_ROOM}
 use Rattle.plain_model.specs.declared.call.End.{End}
@@ -9,7 +9,6 @@ use Rattle.plain_model.specs.declared.call.ForkChange.TheVariants.{Nothing, Make
 use Rattle.machine_names.specs.declared.names.Kind.TheVariants.{Read, Write}
 use Rattle.machine_names.specs.declared.names.ForkName.{ForkName}
 use Rattle.plain_model.specs.declared.fork.Fork.{Fork}
-use Rattle.plain_model.specs.declared.fork.Body.{Body}
 use Rattle.plain_units.specs.declared.registers.Regs.{Regs}
 use Rattle.plain_units.specs.Deeds.{skip_pc}
 use Rattle.script_texts.specs.declared.status.ForkStatus.TheVariants.{Halted}
@@ -23,7 +22,7 @@ use Rattle.call_turns.specs.Turns.{FitsEnd}
 use Rattle.fork_calls.specs.declared.step.FirstStep.{FirstStep}
 use Rattle.fork_calls.specs.declared.step.FirstStep.TheVariants.{Ends, Makes, Sets, Stores}
 use Rattle.job_forks.specs.Asking.{IsBelow}
-use Rattle.job_forks.specs.Limits.{IsBody}
+use Rattle.job_forks.specs.Limits.{IsBodyOf}
 
 -- how SFACS ends, told the words
 abbrev pub set_end : Asked → Fork → List ℕ → End ForkChange

@@ -12,10 +12,10 @@ use Rattle.plain_model.specs.Trees.{PlainTree}
 use Rattle.plain_model.specs.Calls.{Turn, no_files, turn_on}
 use Rattle.plain_model.specs.ForkCalls.{ForkParts, fork_changed}
 use Rattle.call_turns.specs.Answers.{IsTurn}
-use Rattle.call_turns.specs.Turns.{IsOut, IsRegs}
 use Rattle.ka10_unit.specs.declared.taken.Stop.{Stop}
 use Rattle.ka10_unit.specs.declared.taken.Stop.TheVariants as stop
 use Rattle.ka10_unit.specs.Gathers.{Framed, framed}
+use Rattle.job_forks.specs.Holding.{parts}
 use Rattle.fork_calls.specs.Needing.{ChangeNeeds, TurnNeeds}
 
 -- a turn comes out over the plain pages as it does here
