@@ -10,4 +10,4 @@ mod reading;
 mod turn;
 mod writing;
 
-pub use turn::{call, is_byte_call};
+pub use turn::call;

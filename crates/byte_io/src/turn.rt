@@ -3,8 +3,7 @@ ghost use Rattle.std.specs.Prelude.{◌≡◌, ◌<◌, ◌^◌, IfErr, IfOk, Is
 ghost use Rattle.machine_names.specs.Bounds.{IsTerminal};
 ghost use Rattle.page_contracts.specs.Pages.{MayLose};
 ghost use Rattle.page_contracts.specs.Stores.{IsNeeded};
-ghost use Rattle.plain_model.specs.ByteCalls.{byte_call, byte_calls};
-ghost use Rattle.plain_model.specs.Calls.{is_among};
+ghost use Rattle.plain_model.specs.ByteCalls.{byte_call};
 ghost use Rattle.call_turns.specs.Answers.{AnswerNeeds, FitsAnswer, IsDone, answer_of as answer_to};
 ghost use Rattle.call_turns.specs.Turns.{FitsEnd, IsRegs};
 ghost use Rattle.call_turns.specs.Making.{MakesAtMost, MakesIn};
@@ -26,16 +25,6 @@ use plain_model::call::{BIN, BOUT, ByteChange, End, PBIN, RFPTR, SFPTR, SIZEF};
 use plain_units::Regs;
 use plain_units::channel::ILLEGAL_INSTRUCTION;
 use tty_lines::Line;
-
-/// Whether a number is that of a call on bytes.
-pub fn is_byte_call(number: u32) -> bool
-    ensures { result ≡ is_among byte_calls number }
-{
-    match number {
-        SFPTR | SIZEF | RFPTR | BIN | BOUT | PBIN => true,
-        _ => false,
-    }
-}
 
 // How a call is to end, by its number, or what it needs first; nothing changes. A number that is none of them traps as an illegal
 // instruction.

@@ -3,3 +3,4 @@ pub mod Peeks
 pub mod Touches
 pub mod DrivenTurns
 pub mod Numbered
+pub mod Families

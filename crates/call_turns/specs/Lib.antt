@@ -5,3 +5,4 @@ pub mod Needing
 pub mod Numbers
 pub mod Answers
 pub mod Making
+pub mod Families

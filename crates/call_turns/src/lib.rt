@@ -7,6 +7,7 @@ mod answer;
 mod asking;
 mod driving;
 mod ending;
+mod family;
 mod touching;
 mod turn;
 
@@ -14,5 +15,6 @@ pub use answer::Answer;
 pub use asking::{entry_of, word_of};
 pub use driving::{Rest, driven};
 pub use ending::{accumulator, answer_of, behind, returning, stopped, with_ac};
+pub use family::{CallFamily, family_of};
 pub use touching::fill;
 pub use turn::{Ask, Grant, Outcome, Told, Turn, WhenFull};

@@ -6,4 +6,4 @@
 mod calls;
 mod turn;
 
-pub use turn::{call, is_clock_call};
+pub use turn::call;

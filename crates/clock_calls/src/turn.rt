@@ -1,8 +1,8 @@
 // One turn of a call on the clock.
-ghost use Rattle.std.specs.Prelude.{◌≡◌, ◌<◌, ◌^◌, IfOk, IsSome};
+ghost use Rattle.std.specs.Prelude.{◌≡◌, ◌<◌, ◌^◌, IfOk};
 ghost use Rattle.std.specs.FinMap as map;
 ghost use Rattle.machine_names.specs.declared.names.ForkName.{ForkName as AForkName};
-ghost use Rattle.plain_model.specs.Calls.{given as given_of, is_among, numbered};
+ghost use Rattle.plain_model.specs.Calls.{given as given_of, numbered};
 ghost use Rattle.plain_model.specs.ClockCalls.{clock_calls, clock_changed, without_moment};
 ghost use Rattle.plain_model.specs.Forks.{OthersStay};
 ghost use Rattle.plain_model.specs.Trees.{with_changed_of};
@@ -19,16 +19,6 @@ use machine_names::ForkName;
 use plain_model::call::{DISMS, End, RUNTM, SleepChange, TIME};
 use plain_units::Regs;
 use plain_units::channel::ILLEGAL_INSTRUCTION;
-
-/// Whether a number is that of a call on the clock.
-pub fn is_clock_call(number: u32) -> bool
-    ensures { result ≡ is_among clock_calls number }
-{
-    match number {
-        TIME | RUNTM | DISMS => true,
-        _ => false,
-    }
-}
 
 // The end of a call, or that of one that is refused with the code of an error.
 fn given(ending: Result<End<SleepChange>, u32>) -> End<SleepChange>

@@ -4,8 +4,8 @@ ghost use Rattle.machine_names.specs.Bounds.{IsTerminal};
 ghost use Rattle.page_contracts.specs.DrumWords.{DrumWords};
 ghost use Rattle.page_gather.specs.Gathering.{left_of};
 ghost use Rattle.plain_units.specs.Deeds.{in_ac};
-ghost use Rattle.plain_model.specs.Calls.{ends, is_among};
-ghost use Rattle.plain_model.specs.FileCalls.{gtjfn as gtjfn_of, jfn_call as jfn_call_of, jfn_calls};
+ghost use Rattle.plain_model.specs.Calls.{ends};
+ghost use Rattle.plain_model.specs.FileCalls.{gtjfn as gtjfn_of, jfn_call as jfn_call_of};
 ghost use Rattle.call_turns.specs.Answers.{AnswerNeeds, IsDone, answer_of as answer_to, HasRegs};
 ghost use Rattle.call_turns.specs.Turns.{FitsEnd, IsRegs};
 ghost use Rattle.ka10_unit.specs.Carrying.{Grows};
@@ -28,16 +28,6 @@ use plain_units::Regs;
 use plain_units::channel::ILLEGAL_INSTRUCTION;
 use text_pointers::{Reader, Scratch, text_at};
 use word36::Word;
-
-/// Whether a number is that of a call on JFNs.
-pub fn is_jfn_call(number: u32) -> bool
-    ensures { result ≡ is_among jfn_calls number }
-{
-    match number {
-        GTJFN | OPENF | CLOSF | RLJFN | DELF => true,
-        _ => false,
-    }
-}
 
 // How a call of a held JFN ends, by its number. A number that is none of them traps as an illegal instruction.
 fn ending(number: u32, regs: &Regs, who: ForkName, tables: &FileTables) -> End<FileChange>

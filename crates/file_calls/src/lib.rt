@@ -11,6 +11,6 @@ mod laws;
 mod naming;
 mod turn;
 
-pub use jfn_turn::{is_jfn_call, jfn_call};
+pub use jfn_turn::jfn_call;
 pub use laws::jobs_hold_the_jfns;
-pub use turn::{call, is_file_call};
+pub use turn::call;

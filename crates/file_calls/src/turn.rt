@@ -1,6 +1,4 @@
 // One turn of a call on files.
-ghost use Rattle.std.specs.Prelude.{◌≡◌};
-ghost use Rattle.plain_model.specs.Calls.{is_among};
 ghost use Rattle.plain_model.specs.FileCalls.{file_call, file_calls};
 ghost use Rattle.call_turns.specs.Turns.{IsRegs};
 ghost use Rattle.job_forks.specs.Asking.{asked};
@@ -13,16 +11,6 @@ use machine_names::ForkName;
 use plain_model::call::GETER;
 use plain_units::Regs;
 use plain_units::channel::ILLEGAL_INSTRUCTION;
-
-/// Whether a number is that of a call on files.
-pub fn is_file_call(number: u32) -> bool
-    ensures { result ≡ is_among file_calls number }
-{
-    match number {
-        GETER => true,
-        _ => false,
-    }
-}
 
 /// One turn of a call on files, by its number (JSYS Manual): its answer is that of the plain call, whatever the pages, and it
 /// needs nothing first. A number that is no call on files traps as an illegal instruction.

@@ -15,5 +15,4 @@ mod table;
 mod turn;
 mod words;
 
-pub use table::is_fork_call;
 pub use turn::call;

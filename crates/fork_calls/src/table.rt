@@ -1,6 +1,6 @@
 // The fork calls by their numbers.
 ghost use Rattle.std.specs.Prelude.{◌≡◌, IfOk};
-ghost use Rattle.plain_model.specs.Calls.{Asked, given as given_of, is_among};
+ghost use Rattle.plain_model.specs.Calls.{Asked, given as given_of};
 ghost use Rattle.plain_model.specs.declared.call.TheConstants.{CFORK};
 ghost use Rattle.plain_model.specs.ForkCalls.{fork_call, fork_calls};
 ghost use Rattle.machine_names.specs.Bounds.{IsTerminal};
@@ -52,17 +52,5 @@ pub fn first(number: u32, regs: &Regs, who: ForkName, tree: &Tree) -> FirstStep
         WFORK => given(wfork(regs, who, tree)),
         HALTF => FirstStep::Ends(End::Halts),
         _ => FirstStep::Ends(End::Trap(ILLEGAL_INSTRUCTION)),
-    }
-}
-
-/// Whether a number is that of a fork call.
-pub fn is_fork_call(number: u32) -> bool
-    ensures { result ≡ is_among fork_calls number }
-{
-    match number {
-        CFORK | KFORK | FFORK | RFORK | RFSTS | SFORK | SFACS | RFACS | HFORK | WFORK | HALTF => {
-            true
-        }
-        _ => false,
     }
 }

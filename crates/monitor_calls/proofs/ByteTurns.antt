@@ -1,5 +1,5 @@
 -- A turn of a call on bytes or on strings of them, as a turn over all that calls change.
-use Rattle.std.proofs.Common.{◌≡◌, ◌<◌, ℕ, List, [], length, set, Option, Some, true, false, refl, sym, ◌∙◌, subst, ap}
+use Rattle.std.proofs.Common.{◌≡◌, ◌<◌, ℕ, List, [], length, set, Option, Some, refl, sym, ◌∙◌, subst, ap}
 use Rattle.std.specs.Option.{option_map_or}
 use Rattle.std.specs.Ordering.{nat_cmp}
 use Rattle.std.specs.Cmp.{nat_cmp_total}
@@ -13,17 +13,15 @@ use Rattle.plain_pages.specs.PlainPages.{NumberedPages}
 use Rattle.plain_typing.specs.Lines.{InputLine}
 use Rattle.plain_units.specs.declared.registers.Regs.{Regs}
 use Rattle.plain_model.specs.State.{PlainJob}
-use Rattle.plain_model.specs.Calls.{Came, is_among, numbered, turn_on}
-use Rattle.plain_model.specs.Families.{asks_bytes, call_turned, print_calls}
+use Rattle.plain_model.specs.Calls.{Came, numbered, turn_on}
+use Rattle.plain_model.specs.Families.{asks_bytes, call_turned}
 use Rattle.plain_model.specs.ByteCalls.{ByteAsked, ByteRows, byte_calls, byte_changed, with_input}
-use Rattle.plain_model.specs.FileCalls.{FileParts, Jobs, file_calls, jfn_calls, with_held}
-use Rattle.plain_model.specs.ForkCalls.{fork_calls}
-use Rattle.plain_model.specs.ClockCalls.{clock_calls}
-use Rattle.plain_model.specs.InterruptCalls.{interrupt_calls}
-use Rattle.plain_model.specs.MapCalls.{map_calls}
+use Rattle.plain_model.specs.FileCalls.{FileParts, Jobs, with_held}
 use Rattle.plain_model.specs.StringCalls.{string_calls}
 use Rattle.plain_model.specs.declared.call.ByteChange.{ByteChange}
 use Rattle.plain_model.proofs.Calling.{filed_of, with_filed}
+use Rattle.call_turns.specs.declared.family.CallFamily.TheVariants.{Bytes, Strings}
+use Rattle.call_turns.specs.Families.{family_of}
 use Rattle.call_turns.specs.declared.answer.Answer.{Answer}
 use Rattle.call_turns.specs.Answers.{IsTurn}
 use Rattle.file_tables.specs.declared.tables.FileTables.{FileTables}
@@ -106,17 +104,16 @@ module _ (was : Tables) (who : ForkName) (regs : Regs) (number : ℕ) (j : Job) 
           let as_asked = subst (λ (b : ByteAsked). let c = came rows p b in IsTurn IsReason (byte_changed (key_of was.files)) (told was p) (told was c.pages) (told now q) a c.end) (sym (bytes_asked p)) as_told in
           turned_so (key_of was.files) (with_filed v) (filed_of v) (told now q) who regs number a as_asked went
 
-    module _ (printless : is_among print_calls number ≡ false) (unforked : is_among fork_calls number ≡ false) (unposted : is_among interrupt_calls number ≡ false) (untimed : is_among clock_calls number ≡ false) (unmapped : is_among map_calls number ≡ false) (unfiled : is_among file_calls number ≡ false) (unopened : is_among jfn_calls number ≡ false) where
-      -- a call on bytes
-      pub byte_turned : is_among byte_calls number ≡ true → (IsReason : Need → Type 0) (p q : NumberedPages) (a : Answer)
-          → (let c = came byte_calls p (asked_on who regs was.files line.input p) in IsTurn IsReason (byte_changed (key_of was.files)) (parts jobs was.files p) (parts jobs was.files c.pages) (parts (jobs_with jobs t files left) files q) a c.end)
-          → TurnedSo (key_of was.files) (parts_in (rest_of was) p) (parts_in (rest_of now) q) who regs number a
-      byte_turned bytes IsReason p q a comes =
-          rows_turned byte_calls p q a (λ went. bytes_went (key_of was.files) (parts_in (rest_of was) p) who regs number printless unforked unposted untimed unmapped unfiled unopened bytes (told now q) a went) IsReason comes
+    -- a call on bytes
+    pub byte_turned : family_of number ≡ Some Bytes → (IsReason : Need → Type 0) (p q : NumberedPages) (a : Answer)
+        → (let c = came byte_calls p (asked_on who regs was.files line.input p) in IsTurn IsReason (byte_changed (key_of was.files)) (parts jobs was.files p) (parts jobs was.files c.pages) (parts (jobs_with jobs t files left) files q) a c.end)
+        → TurnedSo (key_of was.files) (parts_in (rest_of was) p) (parts_in (rest_of now) q) who regs number a
+    byte_turned bytes IsReason p q a comes =
+        rows_turned byte_calls p q a (λ went. bytes_went (key_of was.files) (parts_in (rest_of was) p) who regs number bytes (told now q) a went) IsReason comes
 
-      -- a call on strings
-      pub string_turned : is_among byte_calls number ≡ false → is_among string_calls number ≡ true → (IsReason : Need → Type 0) (p q : NumberedPages) (a : Answer)
-          → (let c = came string_calls p (asked_on who regs was.files line.input p) in IsTurn IsReason (byte_changed (key_of was.files)) (parts jobs was.files p) (parts jobs was.files c.pages) (parts (jobs_with jobs t files left) files q) a c.end)
-          → TurnedSo (key_of was.files) (parts_in (rest_of was) p) (parts_in (rest_of now) q) who regs number a
-      string_turned unbyted strings IsReason p q a comes =
-          rows_turned string_calls p q a (λ went. strings_went (key_of was.files) (parts_in (rest_of was) p) who regs number printless unforked unposted untimed unmapped unfiled unopened unbyted strings (told now q) a went) IsReason comes
+    -- a call on strings
+    pub string_turned : family_of number ≡ Some Strings → (IsReason : Need → Type 0) (p q : NumberedPages) (a : Answer)
+        → (let c = came string_calls p (asked_on who regs was.files line.input p) in IsTurn IsReason (byte_changed (key_of was.files)) (parts jobs was.files p) (parts jobs was.files c.pages) (parts (jobs_with jobs t files left) files q) a c.end)
+        → TurnedSo (key_of was.files) (parts_in (rest_of was) p) (parts_in (rest_of now) q) who regs number a
+    string_turned strings IsReason p q a comes =
+        rows_turned string_calls p q a (λ went. strings_went (key_of was.files) (parts_in (rest_of was) p) who regs number strings (told now q) a went) IsReason comes

@@ -1,5 +1,5 @@
 -- A fork's body, lent out of a tree; and a turn of a call, by its family and its answer.
-use Rattle.std.proofs.Common.{◌≡◌, ℕ, Bool, true, false, cond, List, Option, Some, refl, sym, ◌∙◌, ap, subst, inl, inr}
+use Rattle.std.proofs.Common.{◌≡◌, ℕ, List, Option, None, Some, refl, sym, ◌∙◌, ap, subst, inl, inr}
 use Rattle.std.specs.Prelude.{IsSome}
 use Rattle.std.specs.Option.{option_map}
 use Rattle.std.specs.Ordering.{nat_cmp}
@@ -18,17 +18,21 @@ use Rattle.machine_names.specs.declared.names.Tty.{Tty}
 use Rattle.plain_units.specs.declared.registers.Regs.{Regs}
 use Rattle.plain_pages.specs.PlainPages.{NumberedPages}
 use Rattle.plain_model.specs.ByteCalls.{ByteAsked, ByteTurn, byte_calls, byte_changed}
-use Rattle.plain_model.specs.Calls.{Came, Turn, fork_behind, is_among, no_files, numbered, out_of, parts_behind, turn_on}
+use Rattle.plain_model.specs.Calls.{Came, Turn, fork_behind, no_files, numbered, out_of, parts_behind, turn_on}
 use Rattle.plain_model.specs.Families.{Parts, Turned, behind, call_turned, print_calls, own_changed, asks, asks_bytes, asks_clock, sleeps_changed, asks_jfns, asks_maps, bytes_changed, files_seen, forks_changed, interrupts_changed, jfns_changed, names_seen, pages_changed}
-use Rattle.plain_model.specs.FileCalls.{FileParts, file_call, file_calls, file_changed, jfn_call, jfn_calls}
-use Rattle.plain_model.specs.ForkCalls.{ForkParts, fork_call, fork_calls, fork_changed}
+use Rattle.plain_model.specs.FileCalls.{FileParts, file_call, file_changed, jfn_call}
+use Rattle.plain_model.specs.ForkCalls.{ForkParts, fork_call, fork_changed}
 use Rattle.plain_model.specs.ClockCalls.{clock_calls, clock_changed}
 use Rattle.plain_model.specs.InterruptCalls.{interrupt_calls}
-use Rattle.plain_model.specs.MapCalls.{map_call, map_calls, map_changed}
+use Rattle.plain_model.specs.MapCalls.{map_call, map_changed}
 use Rattle.plain_model.specs.StringCalls.{string_calls}
 use Rattle.plain_model.specs.Forks.{fork_in}
 use Rattle.plain_model.specs.Trees.{PlainTree, changed, with_body}
 use Rattle.plain_model.proofs.Calling.{MakesNone, bytes_behind, clock_makes_none, file_makes_none, filed_of, forks_behind, jfns_behind, jobs_behind, nothing_behind, pages_behind, print_makes_none, sleeps_behind, with_filed}
+use Rattle.call_turns.specs.declared.family.CallFamily.{CallFamily}
+use Rattle.call_turns.specs.declared.family.CallFamily.TheVariants.{Printing, Forks, Interrupts, Clock, Maps, Errors, Jfns, Bytes, Strings}
+use Rattle.call_turns.specs.Families.{family_of}
+use Rattle.call_turns.proofs.Families.{by_family, turned_by}
 use Rattle.call_turns.specs.Answers.{FitsAnswer, IsDone, IsTurn, Went, answer_of, HasRegs}
 use Rattle.call_turns.specs.Turns.{IsOut}
 use Rattle.fork_tree.specs.Changes.{body_in, with_body_at}
@@ -147,12 +151,6 @@ module _ (key : List ℕ → ℕ) (v : Parts nat_cmp) (who : ForkName) where
       ∙ answer_is left (map.get left.tree.forks who) came.end
       ∙ ap (answered_turn left who) (sym is)
 
-  on_true : (b : Bool) (x y : Turned nat_cmp) → b ≡ true → cond b x y ≡ x
-  on_true b x y is = ap (λ c. cond c x y) is
-
-  on_false : (b : Bool) (x y : Turned nat_cmp) → b ≡ false → cond b x y ≡ y
-  on_false b x y is = ap (λ c. cond c x y) is
-
   -- a turn of a call, by its family
   module _ (regs : Regs) (number : ℕ) where
     -- one that changes the fork that called alone
@@ -173,123 +171,66 @@ module _ (key : List ℕ → ℕ) (v : Parts nat_cmp) (who : ForkName) where
       bytes_left : (part : FileParts nat_cmp) (a : Answer) → BytesWent part a → behind (bytes_changed key) v who byte_came ≡ answered_turn (with_filed v part) who a
       bytes_left part a w = came_behind (bytes_changed key) byte_came (with_filed v part) a w.answered (ap (with_filed v) w.left ∙ sym (bytes_behind key v byte_came.pages byte_came.end))
 
-    pub print_went : is_among print_calls number ≡ true → (a : Answer) → a ≡ answer_of (turn_on no_files v.pages (numbered print_calls number regs)).end → call_turned key v who regs number ≡ answered_turn v who a
-    print_went prints a is =
-        on_true (is_among print_calls number) _ _ prints
-        ∙ own_behind (numbered print_calls number regs) (print_makes_none v.pages number regs) a is
+    -- a turn is that of its family
+    of_family : (family : Option CallFamily) → family_of number ≡ family → call_turned key v who regs number ≡ turned_by key v who regs number family
+    of_family family is = by_family key v who regs number ∙ ap (turned_by key v who regs number) is
 
-    module _ (other : is_among print_calls number ≡ false) where
-      pub forks_went : is_among fork_calls number ≡ true → (tree : PlainTree) (q : NumberedPages) (a : Answer)
-          → (let c = turn_on no_files v.pages (fork_call number (asks v who regs)) in Went fork_changed (parts v.tree v.pages) (parts v.tree c.pages) (parts tree q) a c.end)
-          → (let c = turn_on no_files v.pages (fork_call number (asks v who regs)) in call_turned key v who regs number ≡ answered_turn (record v { tree = tree; pages = q; jobs = jobs_behind c.end tree.forks v.jobs }) who a)
-      forks_went forks tree q a w =
-          on_false (is_among print_calls number) _ _ other
-          ∙ on_true (is_among fork_calls number) _ _ forks
-          ∙ came_behind forks_changed (turn_on no_files v.pages (fork_call number (asks v who regs))) _ a w.answered
-          (ap (λ (part : ForkParts nat_cmp). record v { tree = part.tree; pages = part.pages; jobs = jobs_behind (turn_on no_files v.pages (fork_call number (asks v who regs))).end part.tree.forks v.jobs }) w.left
-          ∙ sym (forks_behind v (turn_on no_files v.pages (fork_call number (asks v who regs))).pages (turn_on no_files v.pages (fork_call number (asks v who regs))).end))
+    pub print_went : family_of number ≡ Some Printing → (a : Answer) → a ≡ answer_of (turn_on no_files v.pages (numbered print_calls number regs)).end → call_turned key v who regs number ≡ answered_turn v who a
+    print_went prints a is = of_family (Some Printing) prints ∙ own_behind (numbered print_calls number regs) (print_makes_none v.pages number regs) a is
 
-      module _ (unforked : is_among fork_calls number ≡ false) where
-        pub interrupts_went : is_among interrupt_calls number ≡ true → (new : Parts nat_cmp) (a : Answer)
-            → (let c = turn_on no_files v.pages (numbered interrupt_calls number (asks v who regs)) in Went interrupts_changed v (record v { pages = c.pages }) new a c.end)
-            → call_turned key v who regs number ≡ answered_turn new who a
-        interrupts_went interrupts new a w =
-            on_false (is_among print_calls number) _ _ other
-            ∙ on_false (is_among fork_calls number) _ _ unforked
-            ∙ on_true (is_among interrupt_calls number) _ _ interrupts
-            ∙ came_behind interrupts_changed (turn_on no_files v.pages (numbered interrupt_calls number (asks v who regs))) new a w.answered w.left
+    pub forks_went : family_of number ≡ Some Forks → (tree : PlainTree) (q : NumberedPages) (a : Answer)
+        → (let c = turn_on no_files v.pages (fork_call number (asks v who regs)) in Went fork_changed (parts v.tree v.pages) (parts v.tree c.pages) (parts tree q) a c.end)
+        → (let c = turn_on no_files v.pages (fork_call number (asks v who regs)) in call_turned key v who regs number ≡ answered_turn (record v { tree = tree; pages = q; jobs = jobs_behind c.end tree.forks v.jobs }) who a)
+    forks_went forks tree q a w =
+        of_family (Some Forks) forks
+        ∙ came_behind forks_changed (turn_on no_files v.pages (fork_call number (asks v who regs))) _ a w.answered
+        (ap (λ (part : ForkParts nat_cmp). record v { tree = part.tree; pages = part.pages; jobs = jobs_behind (turn_on no_files v.pages (fork_call number (asks v who regs))).end part.tree.forks v.jobs }) w.left
+        ∙ sym (forks_behind v (turn_on no_files v.pages (fork_call number (asks v who regs))).pages (turn_on no_files v.pages (fork_call number (asks v who regs))).end))
 
-        module _ (unposted : is_among interrupt_calls number ≡ false) where
-          pub clock_went : is_among clock_calls number ≡ true → (tree : PlainTree) (a : Answer)
-              → (let c = turn_on no_files v.pages (numbered clock_calls number (asks_clock v who regs)) in (a ≡ answer_of c.end) × (tree ≡ parts_behind clock_changed v.tree v.tree c.end))
-              → call_turned key v who regs number ≡ answered_turn (record v { tree = tree }) who a
-          clock_went clocks tree a w =
-              let c = turn_on no_files v.pages (numbered clock_calls number (asks_clock v who regs)) in
-              on_false (is_among print_calls number) _ _ other
-              ∙ on_false (is_among fork_calls number) _ _ unforked
-              ∙ on_false (is_among interrupt_calls number) _ _ unposted
-              ∙ on_true (is_among clock_calls number) _ _ clocks
-              ∙ came_behind sleeps_changed c (record v { tree = tree }) a w.0
-              (ap (λ (x : PlainTree). record v { tree = x }) w.1
-              ∙ sym (ap (λ (q : NumberedPages). parts_behind sleeps_changed v (record v { pages = q }) c.end) (clock_makes_none v.pages number (asks_clock v who regs)) ∙ sleeps_behind v c.end))
+    pub interrupts_went : family_of number ≡ Some Interrupts → (new : Parts nat_cmp) (a : Answer)
+        → (let c = turn_on no_files v.pages (numbered interrupt_calls number (asks v who regs)) in Went interrupts_changed v (record v { pages = c.pages }) new a c.end)
+        → call_turned key v who regs number ≡ answered_turn new who a
+    interrupts_went interrupts new a w =
+        of_family (Some Interrupts) interrupts
+        ∙ came_behind interrupts_changed (turn_on no_files v.pages (numbered interrupt_calls number (asks v who regs))) new a w.answered w.left
 
-          module _ (untimed : is_among clock_calls number ≡ false) where
-            pub maps_went : is_among map_calls number ≡ true → (q : NumberedPages) (a : Answer)
-                → (let c = turn_on (files_seen key v who) v.pages (map_call number (asks_maps v who regs)) in Went (map_changed key) v.pages c.pages q a c.end)
-                → call_turned key v who regs number ≡ answered_turn (record v { pages = q }) who a
-            maps_went maps q a w =
-                on_false (is_among print_calls number) _ _ other
-                ∙ on_false (is_among fork_calls number) _ _ unforked
-                ∙ on_false (is_among interrupt_calls number) _ _ unposted
-                ∙ on_false (is_among clock_calls number) _ _ untimed
-                ∙ on_true (is_among map_calls number) _ _ maps
-                ∙ came_behind (pages_changed key) (turn_on (files_seen key v who) v.pages (map_call number (asks_maps v who regs))) (record v { pages = q }) a w.answered
-                (ap (λ (r : NumberedPages). record v { pages = r }) w.left
-                ∙ sym (pages_behind key v (turn_on (files_seen key v who) v.pages (map_call number (asks_maps v who regs))).pages (turn_on (files_seen key v who) v.pages (map_call number (asks_maps v who regs))).end))
+    pub clock_went : family_of number ≡ Some Clock → (tree : PlainTree) (a : Answer)
+        → (let c = turn_on no_files v.pages (numbered clock_calls number (asks_clock v who regs)) in (a ≡ answer_of c.end) × (tree ≡ parts_behind clock_changed v.tree v.tree c.end))
+        → call_turned key v who regs number ≡ answered_turn (record v { tree = tree }) who a
+    clock_went clocks tree a w =
+        let c = turn_on no_files v.pages (numbered clock_calls number (asks_clock v who regs)) in
+        of_family (Some Clock) clocks
+        ∙ came_behind sleeps_changed c (record v { tree = tree }) a w.0
+        (ap (λ (x : PlainTree). record v { tree = x }) w.1
+        ∙ sym (ap (λ (q : NumberedPages). parts_behind sleeps_changed v (record v { pages = q }) c.end) (clock_makes_none v.pages number (asks_clock v who regs)) ∙ sleeps_behind v c.end))
 
-            module _ (unmapped : is_among map_calls number ≡ false) where
-              pub files_went : is_among file_calls number ≡ true → (a : Answer) → a ≡ answer_of (turn_on no_files v.pages (file_call number (asks v who regs))).end → call_turned key v who regs number ≡ answered_turn v who a
-              files_went files a is =
-                  on_false (is_among print_calls number) _ _ other
-                  ∙ on_false (is_among fork_calls number) _ _ unforked
-                  ∙ on_false (is_among interrupt_calls number) _ _ unposted
-                  ∙ on_false (is_among clock_calls number) _ _ untimed
-                  ∙ on_false (is_among map_calls number) _ _ unmapped
-                  ∙ on_true (is_among file_calls number) _ _ files
-                  ∙ own_behind (file_call number (asks v who regs)) (file_makes_none v.pages number (asks v who regs)) a is
+    pub maps_went : family_of number ≡ Some Maps → (q : NumberedPages) (a : Answer)
+        → (let c = turn_on (files_seen key v who) v.pages (map_call number (asks_maps v who regs)) in Went (map_changed key) v.pages c.pages q a c.end)
+        → call_turned key v who regs number ≡ answered_turn (record v { pages = q }) who a
+    maps_went maps q a w =
+        of_family (Some Maps) maps
+        ∙ came_behind (pages_changed key) (turn_on (files_seen key v who) v.pages (map_call number (asks_maps v who regs))) (record v { pages = q }) a w.answered
+        (ap (λ (r : NumberedPages). record v { pages = r }) w.left
+        ∙ sym (pages_behind key v (turn_on (files_seen key v who) v.pages (map_call number (asks_maps v who regs))).pages (turn_on (files_seen key v who) v.pages (map_call number (asks_maps v who regs))).end))
 
-              module _ (unfiled : is_among file_calls number ≡ false) where
-                pub jfns_went : is_among jfn_calls number ≡ true → (part : FileParts nat_cmp) (a : Answer)
-                    → (let c = turn_on (names_seen v who) v.pages (jfn_call number (asks_jfns v who regs)) in Went (file_changed key) (filed_of v) (record (filed_of v) { pages = c.pages }) part a c.end)
-                    → call_turned key v who regs number ≡ answered_turn (with_filed v part) who a
-                jfns_went jfns part a w =
-                    on_false (is_among print_calls number) _ _ other
-                    ∙ on_false (is_among fork_calls number) _ _ unforked
-                    ∙ on_false (is_among interrupt_calls number) _ _ unposted
-                    ∙ on_false (is_among clock_calls number) _ _ untimed
-                    ∙ on_false (is_among map_calls number) _ _ unmapped
-                    ∙ on_false (is_among file_calls number) _ _ unfiled
-                    ∙ on_true (is_among jfn_calls number) _ _ jfns
-                    ∙ came_behind (jfns_changed key) (turn_on (names_seen v who) v.pages (jfn_call number (asks_jfns v who regs))) (with_filed v part) a w.answered
-                    (ap (with_filed v) w.left
-                    ∙ sym (jfns_behind key v (turn_on (names_seen v who) v.pages (jfn_call number (asks_jfns v who regs))).pages (turn_on (names_seen v who) v.pages (jfn_call number (asks_jfns v who regs))).end))
+    pub errors_went : family_of number ≡ Some Errors → (a : Answer) → a ≡ answer_of (turn_on no_files v.pages (file_call number (asks v who regs))).end → call_turned key v who regs number ≡ answered_turn v who a
+    errors_went errors a is = of_family (Some Errors) errors ∙ own_behind (file_call number (asks v who regs)) (file_makes_none v.pages number (asks v who regs)) a is
 
-                module _ (unopened : is_among jfn_calls number ≡ false) where
-                  pub bytes_went : is_among byte_calls number ≡ true → (part : FileParts nat_cmp) (a : Answer) → BytesWent byte_calls part a → call_turned key v who regs number ≡ answered_turn (with_filed v part) who a
-                  bytes_went bytes part a w =
-                      on_false (is_among print_calls number) _ _ other
-                      ∙ on_false (is_among fork_calls number) _ _ unforked
-                      ∙ on_false (is_among interrupt_calls number) _ _ unposted
-                      ∙ on_false (is_among clock_calls number) _ _ untimed
-                      ∙ on_false (is_among map_calls number) _ _ unmapped
-                      ∙ on_false (is_among file_calls number) _ _ unfiled
-                      ∙ on_false (is_among jfn_calls number) _ _ unopened
-                      ∙ on_true (is_among byte_calls number) _ _ bytes
-                      ∙ bytes_left byte_calls part a w
+    pub jfns_went : family_of number ≡ Some Jfns → (part : FileParts nat_cmp) (a : Answer)
+        → (let c = turn_on (names_seen v who) v.pages (jfn_call number (asks_jfns v who regs)) in Went (file_changed key) (filed_of v) (record (filed_of v) { pages = c.pages }) part a c.end)
+        → call_turned key v who regs number ≡ answered_turn (with_filed v part) who a
+    jfns_went jfns part a w =
+        of_family (Some Jfns) jfns
+        ∙ came_behind (jfns_changed key) (turn_on (names_seen v who) v.pages (jfn_call number (asks_jfns v who regs))) (with_filed v part) a w.answered
+        (ap (with_filed v) w.left
+        ∙ sym (jfns_behind key v (turn_on (names_seen v who) v.pages (jfn_call number (asks_jfns v who regs))).pages (turn_on (names_seen v who) v.pages (jfn_call number (asks_jfns v who regs))).end))
 
-                  module _ (unbyted : is_among byte_calls number ≡ false) where
-                    pub strings_went : is_among string_calls number ≡ true → (part : FileParts nat_cmp) (a : Answer) → BytesWent string_calls part a → call_turned key v who regs number ≡ answered_turn (with_filed v part) who a
-                    strings_went strings part a w =
-                        on_false (is_among print_calls number) _ _ other
-                        ∙ on_false (is_among fork_calls number) _ _ unforked
-                        ∙ on_false (is_among interrupt_calls number) _ _ unposted
-                        ∙ on_false (is_among clock_calls number) _ _ untimed
-                        ∙ on_false (is_among map_calls number) _ _ unmapped
-                        ∙ on_false (is_among file_calls number) _ _ unfiled
-                        ∙ on_false (is_among jfn_calls number) _ _ unopened
-                        ∙ on_false (is_among byte_calls number) _ _ unbyted
-                        ∙ on_true (is_among string_calls number) _ _ strings
-                        ∙ bytes_left string_calls part a w
+    pub bytes_went : family_of number ≡ Some Bytes → (part : FileParts nat_cmp) (a : Answer) → BytesWent byte_calls part a → call_turned key v who regs number ≡ answered_turn (with_filed v part) who a
+    bytes_went bytes part a w = of_family (Some Bytes) bytes ∙ bytes_left byte_calls part a w
 
-                    -- a number that is no call
-                    pub none_went : is_among string_calls number ≡ false → call_turned key v who regs number ≡ answered_turn v who (answer.Trap ILLEGAL_INSTRUCTION)
-                    none_went unstrung =
-                        on_false (is_among print_calls number) _ _ other
-                        ∙ on_false (is_among fork_calls number) _ _ unforked
-                        ∙ on_false (is_among interrupt_calls number) _ _ unposted
-                        ∙ on_false (is_among clock_calls number) _ _ untimed
-                        ∙ on_false (is_among map_calls number) _ _ unmapped
-                        ∙ on_false (is_among file_calls number) _ _ unfiled
-                        ∙ on_false (is_among jfn_calls number) _ _ unopened
-                        ∙ on_false (is_among byte_calls number) _ _ unbyted
-                        ∙ on_false (is_among string_calls number) _ _ unstrung
+    pub strings_went : family_of number ≡ Some Strings → (part : FileParts nat_cmp) (a : Answer) → BytesWent string_calls part a → call_turned key v who regs number ≡ answered_turn (with_filed v part) who a
+    strings_went strings part a w = of_family (Some Strings) strings ∙ bytes_left string_calls part a w
+
+    -- a number that is no call
+    pub none_went : family_of number ≡ None → call_turned key v who regs number ≡ answered_turn v who (answer.Trap ILLEGAL_INSTRUCTION)
+    none_went none = of_family None none

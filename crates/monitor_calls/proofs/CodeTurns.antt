@@ -18,15 +18,17 @@ use Rattle.plain_model.specs.declared.call.End.TheVariants.{Done, Waits, Halts, 
 use Rattle.plain_model.specs.declared.call.ForkChange.{ForkChange}
 use Rattle.plain_model.specs.declared.call.ForkChange.TheVariants.{Nothing, Make, Kill, Freeze, Become, Halt, Store}
 use Rattle.plain_model.specs.declared.call.TheConstants.{KFORK}
-use Rattle.plain_model.specs.Calls.{is_among, no_files, numbered, turn_on}
-use Rattle.plain_model.specs.Families.{Parts, asks, codes_behind, interrupts_changed, print_calls}
+use Rattle.plain_model.specs.Calls.{no_files, numbered, turn_on}
+use Rattle.plain_model.specs.Families.{Parts, asks, codes_behind, interrupts_changed}
 use Rattle.plain_model.specs.FileCalls.{Jobs}
-use Rattle.plain_model.specs.ForkCalls.{fork_call, fork_calls, fork_changed}
+use Rattle.plain_model.specs.ForkCalls.{fork_call, fork_changed}
 use Rattle.plain_model.specs.Inferiors.{is_inferior}
 use Rattle.plain_model.specs.InterruptCalls.{interrupt_calls, living_codes, with_codes_of}
 use Rattle.plain_model.specs.Trees.{PlainTree}
 use Rattle.plain_model.proofs.Calling.{jobs_behind}
 use Rattle.plain_model.proofs.ForkMaps.{held_there}
+use Rattle.call_turns.specs.declared.family.CallFamily.TheVariants.{Forks, Interrupts}
+use Rattle.call_turns.specs.Families.{family_of}
 use Rattle.call_turns.specs.declared.answer.Answer.{Answer}
 use Rattle.call_turns.specs.Answers.{IsDone, IsTurn, answer_of}
 use Rattle.job_forks.specs.Holding.{parts}
@@ -94,15 +96,15 @@ module _ (was : Tables) (who : ForkName) (regs : Regs) (number : ℕ) (j : Job) 
     now tree = record was { tree = tree; typed = typed_now }
 
     -- a call on pseudo-interrupts
-    pub interrupt_turned : is_among print_calls number ≡ false → is_among fork_calls number ≡ false → is_among interrupt_calls number ≡ true → (tree : PlainTree) (IsReason : Need → Type 0) (p q : NumberedPages) (a : Answer)
+    pub interrupt_turned : family_of number ≡ Some Interrupts → (tree : PlainTree) (IsReason : Need → Type 0) (p q : NumberedPages) (a : Answer)
         → (let v = parts_in (rest_of was) p in let c = turn_on no_files p (numbered interrupt_calls number (asks v who regs)) in
         IsTurn IsReason interrupts_changed v (record v { pages = c.pages }) (record { tree = tree; pages = q; files = files_of was.files; jobs = jobs_with jobs t left; clock = was.clock }) a c.end)
         → TurnedSo (key_of was.files) (parts_in (rest_of was) p) (parts_in (rest_of (now tree)) q) who regs number a
-    interrupt_turned printless unforked interrupts tree IsReason p q a comes =
+    interrupt_turned interrupts tree IsReason p q a comes =
         let v = parts_in (rest_of was) p in
         let told = subst (λ (js : Jobs). let c = turn_on no_files p (numbered interrupt_calls number (asks v who regs)) in IsTurn IsReason interrupts_changed v (record v { pages = c.pages }) (record { tree = tree; pages = q; files = files_of was.files; jobs = js; clock = was.clock }) a c.end) jobs_left comes in
         turned_so (key_of was.files) (λ (x : Parts nat_cmp). x) v (parts_in (rest_of (now tree)) q) who regs number a told
-        (λ went. interrupts_went (key_of was.files) v who regs number printless unforked interrupts (parts_in (rest_of (now tree)) q) a went)
+        (λ went. interrupts_went (key_of was.files) v who regs number interrupts (parts_in (rest_of (now tree)) q) a went)
 
     -- a fork call, whose line is left so
     module _ (trees : IsTree was.tree) (p : NumberedPages) (tree : PlainTree) where
@@ -146,16 +148,16 @@ module _ (was : Tables) (who : ForkName) (regs : Regs) (number : ℕ) (j : Job) 
       jobs_so b is (Failed code) which line = still line
       jobs_so b is (Trap channel) which line = still line
 
-      pub fork_turned : is_among print_calls number ≡ false → is_among fork_calls number ≡ true → (IsReason : Need → Type 0) (q : NumberedPages) (a : Answer) → left ≡ line_behind number a tree.forks typing.input
+      pub fork_turned : family_of number ≡ Some Forks → (IsReason : Need → Type 0) (q : NumberedPages) (a : Answer) → left ≡ line_behind number a tree.forks typing.input
           → (let c = turn_on no_files p (fork_call number (asks v who regs)) in IsTurn IsReason fork_changed (parts was.tree p) (parts was.tree c.pages) (parts tree q) a c.end)
           → TurnedSo (key_of was.files) v (parts_in (rest_of (now tree)) q) who regs number a
-      fork_turned printless forks IsReason q a line (inl went) =
+      fork_turned forks IsReason q a line (inl went) =
           let c = turn_on no_files p (fork_call number (asks v who regs)) in
           let which = subst (λ b. KillsIf b was.tree.forks who c.end) (flip KFORK number) (call_kills (asks v who regs) p number) in
           let jobs_are = jobs_so (number == KFORK) refl c.end which (line ∙ ap (λ x. line_behind number x tree.forks typing.input) went.answered) in
           done_so (key_of was.files) v (parts_in (rest_of (now tree)) q) who regs number a (subst IsDone (sym went.answered) (answer_done c.end))
-          (forks_went (key_of was.files) v who regs number printless forks tree q a went ∙ ap (λ (js : Jobs). answered_turn (record v { tree = tree; pages = q; jobs = js }) who a) jobs_are)
-      fork_turned printless forks IsReason q a line (inr waits) =
+          (forks_went (key_of was.files) v who regs number forks tree q a went ∙ ap (λ (js : Jobs). answered_turn (record v { tree = tree; pages = q; jobs = js }) who a) jobs_are)
+      fork_turned forks IsReason q a line (inr waits) =
           let same = still (line ∙ ap (λ x. line_behind number x tree.forks typing.input) waits.answered) in
           subst (TurnedSo (key_of was.files) v (parts_in (rest_of (now tree)) q) who regs number) (sym waits.answered)
           (λ i. record { tree = (waits.left i).tree; pages = (waits.left i).pages; files = files_of was.files; jobs = sym same i; clock = was.clock })

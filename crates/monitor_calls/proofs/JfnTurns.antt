@@ -1,19 +1,16 @@
 -- A turn of a call on JFNs, as a turn over all that calls change.
-use Rattle.std.proofs.Common.{◌≡◌, ℕ, Some, true, false, sym, subst}
+use Rattle.std.proofs.Common.{◌≡◌, ℕ, Some, sym, subst}
 use Rattle.std.specs.Ordering.{nat_cmp}
 use Rattle.machine_names.specs.declared.names.ForkName.{ForkName}
 use Rattle.page_contracts.specs.declared.answers.Need.{Need}
 use Rattle.plain_pages.specs.PlainPages.{NumberedPages}
 use Rattle.plain_units.specs.declared.registers.Regs.{Regs}
-use Rattle.plain_model.specs.Calls.{Came, is_among, turn_on}
-use Rattle.plain_model.specs.Families.{print_calls}
-use Rattle.plain_model.specs.FileCalls.{FileParts, JfnAsked, Jobs, file_calls, file_changed, jfn_call, jfn_calls}
-use Rattle.plain_model.specs.ForkCalls.{fork_calls}
-use Rattle.plain_model.specs.ClockCalls.{clock_calls}
-use Rattle.plain_model.specs.InterruptCalls.{interrupt_calls}
-use Rattle.plain_model.specs.MapCalls.{map_calls}
+use Rattle.plain_model.specs.Calls.{Came, turn_on}
+use Rattle.plain_model.specs.FileCalls.{FileParts, JfnAsked, Jobs, file_calls, file_changed, jfn_call}
 use Rattle.plain_model.specs.declared.call.FileChange.{FileChange}
 use Rattle.plain_model.proofs.Calling.{filed_of, with_filed}
+use Rattle.call_turns.specs.declared.family.CallFamily.TheVariants.{Jfns}
+use Rattle.call_turns.specs.Families.{family_of}
 use Rattle.call_turns.specs.declared.answer.Answer.{Answer}
 use Rattle.call_turns.specs.Answers.{IsTurn}
 use Rattle.file_tables.specs.declared.tables.FileTables.{FileTables}
@@ -41,7 +38,7 @@ module _ (was : Tables) (who : ForkName) (regs : Regs) (number : ℕ) (j : Job) 
   abbrev came : NumberedPages → JfnAsked → Came nat_cmp FileChange
   came p a = turn_on (names_of was.files) p (jfn_call number a)
 
-  module _ (printless : is_among print_calls number ≡ false) (unforked : is_among fork_calls number ≡ false) (unposted : is_among interrupt_calls number ≡ false) (untimed : is_among clock_calls number ≡ false) (unmapped : is_among map_calls number ≡ false) (unfiled : is_among file_calls number ≡ false) (jfns : is_among jfn_calls number ≡ true) where
+  module _ (jfns : family_of number ≡ Some Jfns) where
     pub jfn_turned : (IsReason : Need → Type 0) (files : FileTables) (p q : NumberedPages) (a : Answer)
         → (let c = came p (asked_of who regs j.user was.files) in IsTurn IsReason (file_changed (key_of was.files)) (parts jobs was.files p) (parts jobs was.files c.pages) (parts jobs files q) a c.end)
         → TurnedSo (key_of was.files) (parts_in (rest_of was) p) (parts_in (rest_of (record was { files = files })) q) who regs number a
@@ -50,4 +47,4 @@ module _ (was : Tables) (who : ForkName) (regs : Regs) (number : ℕ) (j : Job) 
         let as_told = subst (λ (f : FileTables → NumberedPages → FileParts nat_cmp). let c = came p (asked_of who regs j.user was.files) in IsTurn IsReason (file_changed (key_of was.files)) (f was.files p) (f was.files c.pages) (f files q) a c.end) told_are comes in
         let as_asked = subst (λ (b : JfnAsked). let c = came p b in IsTurn IsReason (file_changed (key_of was.files)) (told was.files p) (told was.files c.pages) (told files q) a c.end) (sym (asks_are was p who regs j there unheld)) as_told in
         turned_so (key_of was.files) (with_filed v) (filed_of v) (told files q) who regs number a as_asked
-        (λ went. jfns_went (key_of was.files) v who regs number printless unforked unposted untimed unmapped unfiled jfns (told files q) a went)
+        (λ went. jfns_went (key_of was.files) v who regs number jfns (told files q) a went)

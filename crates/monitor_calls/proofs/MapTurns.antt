@@ -1,5 +1,5 @@
 -- A turn of a call on maps, as a turn over all that calls change: what it is asked with, how it comes out, and what it makes.
-use Rattle.std.proofs.Common.{◌≡◌, ◌≤◌, ℕ, List, Option, None, Some, true, false, refl, sym, ◌∙◌, subst, ap, arith}
+use Rattle.std.proofs.Common.{◌≡◌, ◌≤◌, ℕ, List, Option, None, Some, refl, sym, ◌∙◌, subst, ap, arith}
 use Rattle.std.specs.Option.{option_map_or}
 use Rattle.std.specs.Ordering.{nat_cmp}
 use Rattle.std.specs.FinMap as map
@@ -11,14 +11,13 @@ use Rattle.plain_files.specs.OpenFiles.{OpenFiles, open_at}
 use Rattle.plain_pages.specs.PlainPages.{NumberedPages}
 use Rattle.plain_units.specs.declared.registers.Regs.{Regs}
 use Rattle.plain_model.specs.State.{PlainJob}
-use Rattle.plain_model.specs.Calls.{Came, is_among, turn_on}
-use Rattle.plain_model.specs.Families.{asks_maps, print_calls}
+use Rattle.plain_model.specs.Calls.{Came, turn_on}
+use Rattle.plain_model.specs.Families.{asks_maps}
 use Rattle.plain_model.specs.FileCalls.{held_at}
-use Rattle.plain_model.specs.ForkCalls.{fork_calls}
-use Rattle.plain_model.specs.ClockCalls.{clock_calls}
-use Rattle.plain_model.specs.InterruptCalls.{interrupt_calls}
-use Rattle.plain_model.specs.MapCalls.{MapAsked, map_call, map_calls, map_changed}
+use Rattle.plain_model.specs.MapCalls.{MapAsked, map_call, map_changed}
 use Rattle.plain_model.specs.declared.call.MapChange.{MapChange}
+use Rattle.call_turns.specs.declared.family.CallFamily.TheVariants.{Maps}
+use Rattle.call_turns.specs.Families.{family_of}
 use Rattle.call_turns.specs.declared.answer.Answer.{Answer}
 use Rattle.call_turns.specs.declared.answer.Answer.TheVariants as answer
 use Rattle.call_turns.specs.Answers.{IsTurn}
@@ -54,7 +53,7 @@ module _ (was : Tables) (who : ForkName) (regs : Regs) (number : ℕ) (unheld : 
   abbrev came : NumberedPages → MapAsked → Came nat_cmp MapChange
   came p a = turn_on (seen_in was.files) p (map_call number a)
 
-  module _ (printless : is_among print_calls number ≡ false) (unforked : is_among fork_calls number ≡ false) (unposted : is_among interrupt_calls number ≡ false) (untimed : is_among clock_calls number ≡ false) (maps : is_among map_calls number ≡ true) where
+  module _ (maps : family_of number ≡ Some Maps) where
     pub map_turned : (IsReason : Need → Type 0) (p q : NumberedPages) (a : Answer)
         → (let c = came p (asked who regs was.tree was.files) in IsTurn IsReason (map_changed (key_of was.files)) p c.pages q a c.end)
         → TurnedSo (key_of was.files) (parts_in (rest_of was) p) (parts_in (rest_of was) q) who regs number a
@@ -62,7 +61,7 @@ module _ (was : Tables) (who : ForkName) (regs : Regs) (number : ℕ) (unheld : 
         let v = parts_in (rest_of was) p in
         let as_asked = subst (λ (b : MapAsked). let c = came p b in IsTurn IsReason (map_changed (key_of was.files)) p c.pages q a c.end) (sym (maps_asked p)) comes in
         turned_so (key_of was.files) (λ (x : NumberedPages). record v { pages = x }) p q who regs number a as_asked
-        (λ went. maps_went (key_of was.files) v who regs number printless unforked unposted untimed maps q a went)
+        (λ went. maps_went (key_of was.files) v who regs number maps q a went)
 
 module _ {P : Type 0} (means : PagesMeaning P) (t : Tty) (old new : P) where
   -- what it makes is no more than the words of a call may

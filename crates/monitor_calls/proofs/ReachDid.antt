@@ -1,5 +1,5 @@
 -- How far units, calls and what is told of them reach among the forks.
-use Rattle.std.proofs.Common.{◌≡◌, ℕ, ◌==◌, Bool, true, false, cond, ◌||◌, Option, None, Some, inl, inr, refl, sym, ◌∙◌, ap, subst}
+use Rattle.std.proofs.Common.{◌≡◌, ℕ, ◌==◌, Bool, true, false, cond, Option, None, Some, inl, inr, refl, sym, ◌∙◌, ap, subst}
 use Rattle.std.proofs.lemmas.Bool.Decides.{eqb_tells}
 use Rattle.std.specs.Option.{option_map_or}
 use Rattle.std.specs.FinMap as map
@@ -8,19 +8,18 @@ use Rattle.machine_names.specs.declared.names.Tty.{Tty}
 use Rattle.plain_model.specs.declared.call.TheConstants.{CFORK}
 use Rattle.plain_model.specs.declared.fork.Body.{Body}
 use Rattle.plain_model.specs.declared.fork.Fork.{Fork}
-use Rattle.plain_model.specs.Calls.{is_among}
-use Rattle.plain_model.specs.ClockCalls.{clock_calls}
-use Rattle.plain_model.specs.ForkCalls.{fork_calls}
 use Rattle.plain_model.specs.Forks.{ForkMap, OthersStay, fork_in}
-use Rattle.plain_model.specs.InterruptCalls.{interrupt_calls}
 use Rattle.plain_model.specs.Trees.{PlainTree, changed, with_body}
 use Rattle.plain_model.proofs.ForkMaps.{AreOwn, get_put, put_again, put_itself}
 use Rattle.plain_model.proofs.OtherJobs.{named_others, others_alike, others_on, told_job}
+use Rattle.call_turns.specs.declared.family.CallFamily.{CallFamily}
+use Rattle.call_turns.specs.declared.family.CallFamily.TheVariants.{Printing, Forks, Interrupts, Clock, Maps, Errors, Jfns, Bytes, Strings}
+use Rattle.call_turns.specs.Families.{family_of}
 use Rattle.fork_tree.specs.Changes.{with_body_at, with_body_of}
 use Rattle.fork_tree.specs.Making.{AddsBeside, AddsLast}
 use Rattle.monitor_calls.proofs.MadeBeside.{beside_last, beside_none, beside_others, body_then, then_body}
 use Rattle.step_shown.specs.Reaching.{Reaches, ReachesOwn}
-use Rattle.monitor_calls.specs.Reaching.{reach_of}
+use Rattle.monitor_calls.specs.Reaching.{family_reach, reach_of}
 use Rattle.step_shown.specs.Runners.{told_at, told_where}
 use Rattle.step_shown.specs.declared.reach.Reach.{Reach}
 use Rattle.step_shown.specs.declared.reach.Reach.TheVariants.{Own, Made, Job}
@@ -99,53 +98,38 @@ told_reaches Made false who old mid new own owned reaches told = subst (λ (x : 
 told_reaches Job false who old mid new own owned reaches told =
     others_on who.tty old.forks mid.forks new.forks reaches (others_same who.tty mid.forks new.forks (ap (λ (x : PlainTree). x.forks) (told ∙ untold mid (map.get mid.forks who))))
 
--- ---- the families whose calls reach the forks of a job
+-- ---- calls, by their families
 
-abbrev reach_by : Bool → Bool → Bool → Bool → Reach
-reach_by m a b c = cond m Made (cond (a || (b || c)) Job Own)
+by_reach : (made : Bool) (family : Option CallFamily) → cond made Made (family_reach family) ≡ Own → family_reach family ≡ Own
+by_reach true family own = absurd (cc own)
+by_reach false family own = own
 
-first_reaches : (m a b c : Bool) → a ≡ true → reach_by m a b c ≡ Own → ⊥
-first_reaches true a b c is own = cc own
-first_reaches false true b c is own = cc own
-first_reaches false false b c is own = cc is
-
-second_reaches : (m a b c : Bool) → b ≡ true → reach_by m a b c ≡ Own → ⊥
-second_reaches true a b c is own = cc own
-second_reaches false true b c is own = cc own
-second_reaches false false true c is own = cc own
-second_reaches false false false c is own = cc is
-
-third_reaches : (m a b c : Bool) → c ≡ true → reach_by m a b c ≡ Own → ⊥
-third_reaches true a b c is own = cc own
-third_reaches false true b c is own = cc own
-third_reaches false false true c is own = cc own
-third_reaches false false false true is own = cc own
-third_reaches false false false false is own = cc is
-
-pub forks_reach : (number : ℕ) → is_among fork_calls number ≡ true → reach_of number ≡ Own → ⊥
-forks_reach number is = first_reaches (number == CFORK) (is_among fork_calls number) (is_among interrupt_calls number) (is_among clock_calls number) is
-
-pub interrupts_reach : (number : ℕ) → is_among interrupt_calls number ≡ true → reach_of number ≡ Own → ⊥
-interrupts_reach number is = second_reaches (number == CFORK) (is_among fork_calls number) (is_among interrupt_calls number) (is_among clock_calls number) is
-
-pub clocks_reach : (number : ℕ) → is_among clock_calls number ≡ true → reach_of number ≡ Own → ⊥
-clocks_reach number is = third_reaches (number == CFORK) (is_among fork_calls number) (is_among interrupt_calls number) (is_among clock_calls number) is
+-- a call of a family that reaches the forks of a job reaches more than its own
+pub job_reaches : (number : ℕ) (family : Option CallFamily) → family_of number ≡ family → family_reach family ≡ Job → reach_of number ≡ Own → ⊥
+job_reaches number family is job own =
+    let both : Own ≡ Job = sym (by_reach (number == CFORK) (family_of number) own) ∙ ap family_reach is ∙ job in cc both
 
 -- ---- CFORK alone makes a fork
 
-made_by : (m a b c : Bool) → reach_by m a b c ≡ Made → m ≡ true
-made_by true a b c is = refl
-made_by false true b c is = absurd (cc is)
-made_by false false true c is = absurd (cc is)
-made_by false false false true is = absurd (cc is)
-made_by false false false false is = absurd (cc is)
+made_by : (made : Bool) (family : Option CallFamily) → cond made Made (family_reach family) ≡ Made → made ≡ true
+made_by true family is = refl
+made_by false None is = absurd (cc is)
+made_by false (Some Printing) is = absurd (cc is)
+made_by false (Some Forks) is = absurd (cc is)
+made_by false (Some Interrupts) is = absurd (cc is)
+made_by false (Some Clock) is = absurd (cc is)
+made_by false (Some Maps) is = absurd (cc is)
+made_by false (Some Errors) is = absurd (cc is)
+made_by false (Some Jfns) is = absurd (cc is)
+made_by false (Some Bytes) is = absurd (cc is)
+made_by false (Some Strings) is = absurd (cc is)
 
 pub made_is : (number : ℕ) → reach_of number ≡ Made → number ≡ CFORK
 made_is number is = elim (eqb_tells number CFORK) [
   | inl same ↦ same.1
-  | inr other ↦ let both : true ≡ false = sym (made_by (number == CFORK) (is_among fork_calls number) (is_among interrupt_calls number) (is_among clock_calls number) is) ∙ other.0 in absurd (cc both)
+  | inr other ↦ let both : true ≡ false = sym (made_by (number == CFORK) (family_of number) is) ∙ other.0 in absurd (cc both)
 ]
 
 -- which is a fork call
-pub made_among : (number : ℕ) → reach_of number ≡ Made → is_among fork_calls number ≡ true
-made_among number is = ap (is_among fork_calls) (made_is number is)
+pub made_family : (number : ℕ) → reach_of number ≡ Made → family_of number ≡ Some Forks
+made_family number is = ap family_of (made_is number is)

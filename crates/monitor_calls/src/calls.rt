@@ -8,7 +8,7 @@ ghost use Rattle.plain_model.specs.declared.fork.Fork.{Fork as AFork};
 ghost use Rattle.script_texts.specs.declared.status.ForkStatus.{ForkStatus as AForkStatus};
 ghost use Rattle.plain_pages.specs.PlainPages.{NumberedPages};
 ghost use Rattle.plain_model.specs.Forks.{counted, fork_in, with_regs, with_status};
-ghost use Rattle.plain_model.specs.Calls.{behind_call, failed_regs, is_among, no_files, numbered, posted_if, turn_on, with_error, with_wait};
+ghost use Rattle.plain_model.specs.Calls.{behind_call, failed_regs, no_files, numbered, posted_if, turn_on, with_error, with_wait};
 ghost use Rattle.plain_model.specs.Families.{print_calls};
 ghost use Rattle.plain_model.specs.Trees.{with_body};
 ghost use Rattle.page_contracts.specs.declared.answers.Need.{Need as ANeed};
@@ -34,12 +34,8 @@ ghost use Rattle.monitor_calls.specs.ForkUnit.{CallWaits, Called, HasJob, Place 
 use crate::job::Job;
 use crate::row::post_channel;
 use crate::typing::Typing;
-use byte_io::is_byte_call;
-use call_turns::{Answer, behind};
-use clock_calls::is_clock_call;
-use file_calls::{is_file_call, is_jfn_call};
+use call_turns::{Answer, CallFamily, behind, family_of};
 use file_tables::FileTables;
-use fork_calls::is_fork_call;
 use fork_tree::Tree;
 use machine_names::ForkName;
 use page_contracts::{Need, Pages};
@@ -47,24 +43,12 @@ use plain_model::Body;
 use plain_model::call::{CFORK, KFORK, PBOUT};
 use plain_units::Regs;
 use plain_units::channel::ILLEGAL_INSTRUCTION;
-use pmap_calls::is_map_call;
-use psi_calls::{forget_lost, is_psi_call};
+use psi_calls::forget_lost;
 use script_texts::{ForkStatus, WaitOn};
 use step_shown::{Reach, Runner, Shown, stop_of};
-use string_io::is_string_call;
 use text_pointers::Scratch;
 use tty_lines::Line;
 use word36::Word;
-
-// Whether a number is that of a call that prints.
-fn is_print_call(number: u32) -> bool
-    ensures { result ≡ is_among print_calls number }
-{
-    match number {
-        PBOUT => true,
-        _ => false,
-    }
-}
 
 // PBOUT prints the low 7 bits of accumulator 1.
 fn pbout(regs: &Regs) -> Answer
@@ -128,7 +112,7 @@ fn fork_turn<P: Pages>(
     answer
 }
 
-// A turn of a monitor call, by its number: of the first family of calls that has the number. A number that is no call traps. One that
+// A turn of a monitor call, by its number: of the family of calls that has the number. A number that is no call traps. One that
 // needs something first leaves all as it was.
 fn turn<P: Pages>(
     number: u32,
@@ -162,42 +146,40 @@ fn turn<P: Pages>(
     ensures made { reach_of number ≡ Reach.Made → AddsLast who.tty tree.old tree.new }
     ensures regs { HasRegs result }
 {
-    if is_print_call(number) {
-        return print_call(number, regs);
+    let Some(family) = family_of(number) else {
+        return Answer::Trap(ILLEGAL_INSTRUCTION);
+    };
+    match family {
+        CallFamily::Printing => print_call(number, regs),
+        CallFamily::Forks => {
+            let assigned = &mut typed[who.tty.0 as usize].input;
+            fork_turn(number, regs, who, tree, assigned, pages)
+        }
+        CallFamily::Interrupts => {
+            let codes = &mut typed[who.tty.0 as usize].input;
+            psi_calls::call(number, regs, who, tree, codes, &mut scratch.reader, pages)
+        }
+        CallFamily::Clock => {
+            tree.are_trees();
+            clock_calls::call(number, regs, who, tree, clock)
+        }
+        CallFamily::Maps => pmap_calls::call(number, regs, who, tree, files, pages),
+        CallFamily::Errors => file_calls::call(number, regs, who, tree),
+        CallFamily::Jfns => {
+            let Some(job) = &jobs[who.tty.0 as usize] else {
+                unreachable!();
+            };
+            file_calls::jfn_call(number, regs, who, &job.user, files, scratch, pages)
+        }
+        CallFamily::Bytes => {
+            let line = &mut typed[who.tty.0 as usize].input;
+            byte_io::call(number, regs, who, line, files, pages)
+        }
+        CallFamily::Strings => {
+            let input = &mut typed[who.tty.0 as usize].input;
+            string_io::call(number, regs, who, input, files, pages)
+        }
     }
-    if is_fork_call(number) {
-        let assigned = &mut typed[who.tty.0 as usize].input;
-        return fork_turn(number, regs, who, tree, assigned, pages);
-    }
-    if is_psi_call(number) {
-        let codes = &mut typed[who.tty.0 as usize].input;
-        return psi_calls::call(number, regs, who, tree, codes, &mut scratch.reader, pages);
-    }
-    if is_clock_call(number) {
-        tree.are_trees();
-        return clock_calls::call(number, regs, who, tree, clock);
-    }
-    if is_map_call(number) {
-        return pmap_calls::call(number, regs, who, tree, files, pages);
-    }
-    if is_file_call(number) {
-        return file_calls::call(number, regs, who, tree);
-    }
-    if is_jfn_call(number) {
-        let Some(job) = &jobs[who.tty.0 as usize] else {
-            unreachable!();
-        };
-        return file_calls::jfn_call(number, regs, who, &job.user, files, scratch, pages);
-    }
-    if is_byte_call(number) {
-        let line = &mut typed[who.tty.0 as usize].input;
-        return byte_io::call(number, regs, who, line, files, pages);
-    }
-    if is_string_call(number) {
-        let input = &mut typed[who.tty.0 as usize].input;
-        return string_io::call(number, regs, who, input, files, pages);
-    }
-    Answer::Trap(ILLEGAL_INSTRUCTION)
 }
 
 /// How far a monitor call of a number may reach.
@@ -205,11 +187,11 @@ pub fn reach_of(number: u32) -> Reach
     ensures { result ≡ reach_of number }
 {
     if number == CFORK {
-        Reach::Made
-    } else if is_fork_call(number) || is_psi_call(number) || is_clock_call(number) {
-        Reach::Job
-    } else {
-        Reach::Own
+        return Reach::Made;
+    }
+    match family_of(number) {
+        Some(CallFamily::Forks) | Some(CallFamily::Interrupts) | Some(CallFamily::Clock) => Reach::Job,
+        _ => Reach::Own,
     }
 }
 

@@ -18,5 +18,4 @@ pub use laws::{
     access_comes_back, file_pages_are_shared, mapped_pages_read_their_source,
     pages_are_counted_down, refusals_leave_an_error_alone,
 };
-pub use table::is_map_call;
 pub use turn::call;

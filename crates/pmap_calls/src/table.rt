@@ -1,7 +1,6 @@
 // The calls on maps by their numbers.
 ghost use Rattle.std.specs.Prelude.{◌≡◌};
-ghost use Rattle.plain_model.specs.Calls.{is_among};
-ghost use Rattle.plain_model.specs.MapCalls.{map_call, map_calls};
+ghost use Rattle.plain_model.specs.MapCalls.{map_call};
 ghost use Rattle.machine_names.specs.Bounds.{IsTerminal};
 ghost use Rattle.call_turns.specs.Numbers.{numbered_turn};
 ghost use Rattle.call_turns.specs.Turns.{IsRegs, FitsTurn};
@@ -38,15 +37,5 @@ pub fn first(
         SPACS => spacs(regs, who, tree, tables),
         RMAP => rmap(regs, who, tree, tables),
         _ => Turn::Ends(End::Trap(ILLEGAL_INSTRUCTION)),
-    }
-}
-
-/// Whether a number is that of a call on maps.
-pub fn is_map_call(number: u32) -> bool
-    ensures { result ≡ is_among map_calls number }
-{
-    match number {
-        PMAP | RPACS | SPACS | RMAP => true,
-        _ => false,
     }
 }

@@ -17,5 +17,4 @@ mod turn;
 
 pub use codes::forget_lost;
 pub use laws::{channels_are_added_and_taken, deliveries_are_undone};
-pub use table::is_psi_call;
 pub use turn::call;

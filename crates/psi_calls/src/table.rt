@@ -1,6 +1,6 @@
 // The calls on pseudo-interrupts by their numbers.
 ghost use Rattle.std.specs.Prelude.{◌≡◌, IfOk};
-ghost use Rattle.plain_model.specs.Calls.{Asked, ends, given as given_of, is_among, numbered};
+ghost use Rattle.plain_model.specs.Calls.{Asked, ends, given as given_of, numbered};
 ghost use Rattle.plain_model.specs.InterruptCalls.{interrupt_calls};
 ghost use Rattle.machine_names.specs.declared.names.ForkName.{ForkName as AForkName};
 ghost use Rattle.plain_model.specs.Forks.{ForkMap};
@@ -44,15 +44,5 @@ pub fn first(number: u32, regs: &Regs, who: ForkName, tree: &Tree) -> FirstStep
         ATI => given(ati(regs, who)),
         DTI => given(dti(regs, who)),
         _ => FirstStep::Ends(End::Trap(ILLEGAL_INSTRUCTION)),
-    }
-}
-
-/// Whether a number is that of a call on pseudo-interrupts.
-pub fn is_psi_call(number: u32) -> bool
-    ensures { result ≡ is_among interrupt_calls number }
-{
-    match number {
-        SIR | EIR | DIR | AIC | DIC | IIC | DEBRK | ATI | DTI => true,
-        _ => false,
     }
 }

@@ -14,4 +14,4 @@ mod taking;
 mod turn;
 mod writing;
 
-pub use turn::{call, is_string_call};
+pub use turn::call;

@@ -1,7 +1,6 @@
 // One turn of a call on strings.
 ghost use Rattle.std.specs.Prelude.{◌≡◌, ◌<◌, ◌^◌, IfErr, IfOk, true};
-ghost use Rattle.plain_model.specs.Calls.{is_among};
-ghost use Rattle.plain_model.specs.StringCalls.{string_call, string_calls};
+ghost use Rattle.plain_model.specs.StringCalls.{string_call};
 ghost use Rattle.call_turns.specs.Answers.{AnswerNeeds, IsDone, HasRegs};
 ghost use Rattle.call_turns.specs.Turns.{IsRegs};
 ghost use Rattle.ka10_unit.specs.Carrying.{Grows};
@@ -26,16 +25,6 @@ use plain_model::call::{End, PSOUT, SIN, SOUT};
 use plain_units::Regs;
 use plain_units::channel::ILLEGAL_INSTRUCTION;
 use tty_lines::Line;
-
-/// Whether a number is that of a call on strings.
-pub fn is_string_call(number: u32) -> bool
-    ensures { result ≡ is_among string_calls number }
-{
-    match number {
-        SIN | SOUT | PSOUT => true,
-        _ => false,
-    }
-}
 
 // How a call is to end, by its number, or why it stops; nothing changes. A number that is none of them traps as an illegal
 // instruction.
