@@ -1,8 +1,8 @@
-// The bytes of a script that were read and not yet given.
-ghost use Rattle.std.specs.Prelude.{◌≡◌, ◌<◌, ◌≤◌, ◌⊎◌, ◌≢◌, ℕ, length, drop, IfOk, MatchOption, OnOk, OnErr};
+// The bytes of a script or a record that were read and not yet given.
+ghost use Rattle.std.specs.Prelude.{◌≡◌, ◌^◌, ◌<◌, ◌≤◌, ◌⊎◌, ◌≢◌, ℕ, length, drop, IfOk, MatchOption, OnOk, OnErr};
 ghost use Rattle.outside.specs.Faults.{Rose};
 ghost use Rattle.outside.specs.Told.{EndsOnly, Stays};
-ghost use Rattle.script_texts.specs.Script.{HasNoFeed, most_bytes};
+ghost use Rattle.script_texts.specs.Script.{HasNoFeed};
 ghost use Rattle.script_lang.specs.Feeds.{EndsSo, Fills, IsFed, Reads, Spends, StopsWithin};
 
 use crate::reached::MOST_LINE;
@@ -15,7 +15,7 @@ const ROOM: usize = 4096;
 
 /// Bytes in order, which clauses see as their list.
 #[derive(Drop)]
-pub(crate) struct Buffer {
+pub struct Buffer {
     bytes: [u8; ROOM],
     from: usize,
     to: usize,
@@ -34,7 +34,7 @@ impl Model for Buffer {
 
 /// Where the line at the front ends.
 #[derive(Clone, Copy)]
-pub(crate) enum Found {
+pub enum Found {
     /// At the line feed behind so many bytes.
     Line(usize),
     /// Nowhere: these are the last bytes, no more than a line has and than there is room for.
@@ -47,7 +47,7 @@ pub(crate) enum Found {
 
 /// How a line ends that is passed over.
 #[derive(Clone, Copy)]
-pub(crate) enum Passed {
+pub enum Passed {
     /// At a line feed within the room.
     Feed,
     /// At the end of the source, within the room.
@@ -137,7 +137,7 @@ impl Buffer {
     /// Passes over the line at the front, no line feed of which is held. What is read is not held.
     pub fn pass_line<S: Source>(&self, s: &mut S, room: u64) -> Passed
         requires plain { HasNoFeed self.now }
-        requires small { room ≤ most_bytes }
+        requires small { room < 2 ^ 63 }
         ensures later { S.fault_count s.old ≤ S.fault_count s.new }
         ensures cause { result ≡ Passed.Fault → Rose (S.fault_count s.old) (S.fault_count s.new) }
         ensures unfaulted { result ≢ Passed.Fault → S.fault_count s.new ≡ S.fault_count s.old }

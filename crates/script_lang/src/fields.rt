@@ -19,7 +19,7 @@ const PAGE_DIGITS: usize = 3;
 const SERIAL_DIGITS: usize = 6;
 
 /// The bytes before the first one that is this, and those behind it. None exactly where no byte is.
-pub(crate) fn cut(text: &[u8], at: u8) -> Option<(&[u8], &[u8])>
+pub fn cut(text: &[u8], at: u8) -> Option<(&[u8], &[u8])>
     ensures { MatchOption result (Lacks at text.now) (λ p. IsCut at text.now p.0.now p.1.now) }
 {
     let place = memchr(at, text)?;

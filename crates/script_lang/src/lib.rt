@@ -5,7 +5,7 @@
 
 mod big;
 mod big_laws;
-mod buffer;
+pub mod buffer;
 mod canonical;
 pub mod digits;
 mod draws;
@@ -25,7 +25,7 @@ mod verdicts;
 pub use big::{Big, big_from};
 pub use big_laws::big_script;
 pub use canonical::{LineRoom, canonical_lines, write_line};
-pub use fields::read_decimal;
+pub use fields::{cut, read_decimal};
 pub use grammar::{Read, one_spelling, read_line, script_fits};
 pub use lines::{Lines, Next};
 pub use named::{full_names, read_name};

@@ -4,6 +4,6 @@ mod Standing
 mod InLines
 mod InRuns
 pub mod Starts
-mod RecordLines
-mod RecordApart
+pub mod RecordLines
+pub mod RecordApart
 pub mod Tallies

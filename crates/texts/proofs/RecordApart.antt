@@ -17,11 +17,11 @@ use Rattle.script_texts.specs.RecordLines.{RecordLine, version, run, counts, sai
 use Rattle.texts.proofs.RecordLines.{FitsRun, IsLine, record_lines, record_texts, record_steps, record_fits, record_ends}
 
 -- the first byte of a line, which tells the other lines apart
-abbrev lead : List ℕ → ℕ
+abbrev pub lead : List ℕ → ℕ
 lead text = get_or text 0 0
 
 -- the second byte of a line, which is a letter only where it is an event's
-abbrev second : List ℕ → ℕ
+abbrev pub second : List ℕ → ℕ
 second text = get_or text 1 0
 
 second_letter : (e : Event) → 65 ≤ second (line_of e)
@@ -41,7 +41,7 @@ second_letter (Forks t) = lit≤ tt
 second_letter (Page name page) = lit≤ tt
 second_letter (Trace on) = lit≤ tt
 
-no_event : (e : Event) (text : List ℕ) → second text ≡ 32 → line_of e ≡ text → ⊥
+pub no_event : (e : Event) (text : List ℕ) → second text ≡ 32 → line_of e ≡ text → ⊥
 no_event e text space same = omega (arith, second_letter e, ap second same, space)
 
 -- a number before a space
@@ -50,7 +50,7 @@ one_number m n x y p q same =
     let split = one_split 32 (decimal m) (decimal n) x y (decimal_without 32 m (omega arith) p) (decimal_without 32 n (omega arith) q) same in
     (decimal_injective m n p q split.0, split.1)
 
-plain_of : (l : RecordLine) → IsLine l → HasNoFeed (said l)
+pub plain_of : (l : RecordLine) → IsLine l → HasNoFeed (said l)
 plain_of (version pages) h = plain_word (codes "V 2 ") (decimal pages) refl (decimal_without 10 pages (omega arith) h)
 plain_of (run (Outer e) n) h = plain_line e h.0
 plain_of (run (AUnit f) n) h =
@@ -88,7 +88,7 @@ no_run (Outer e) n text space units idles same = no_event e text space same
 no_run (AUnit f) n text space units idles same = units (sym (ap lead same))
 no_run Idle n text space units idles same = idles (sym (ap lead same))
 
-one_line : (l m : RecordLine) → IsLine l → IsLine m → said l ≡ said m → l ≡ m
+pub one_line : (l m : RecordLine) → IsLine l → IsLine m → said l ≡ said m → l ≡ m
 one_line (version m) (version n) p q same = ap version (decimal_injective m n p q (append_cancel_left (codes "V 2 ") _ _ same))
 one_line (run s m) (run t n) p q same = one_run s t m n p q same
 one_line (counts m n) (counts m' n') p q same =
@@ -102,7 +102,7 @@ one_line (run s n) (counts m m') p q same = absurd (no_run s n (said (counts m m
 one_line (version pages) (counts m n) p q same = absurd (omega (arith, ap lead same))
 one_line (counts m n) (version pages) p q same = absurd (omega (arith, ap lead same))
 
-first_line : (l : RecordLine) (ls : List RecordLine) → said_all (l ∷ ls) ≡ said l ++ 10 ∷ said_all ls
+pub first_line : (l : RecordLine) (ls : List RecordLine) → said_all (l ∷ ls) ≡ said l ++ 10 ∷ said_all ls
 first_line l ls = append_assoc (said l) (10 ∷ []) (said_all ls)
 
 some_bytes : (l : RecordLine) (ls : List RecordLine) → said_all (l ∷ ls) ≡ [] → ⊥
