@@ -3,6 +3,7 @@ mod Turns
 mod Found
 mod Lined
 mod Generating
+mod InBytes
 mod Fairness
 mod Running
 mod Closing

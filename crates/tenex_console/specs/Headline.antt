@@ -69,6 +69,11 @@ abbrev pub Headline : EventSource → ℕ → Observed → Type 0
 Headline ReadScript limit told = RunsScript limit told
 Headline (Generated seed) limit told = RunsGenerated seed limit told
 
+-- the entries of the record
+abbrev pub entries_of : (events : EventSource) (limit : ℕ) (told : Observed) → Headline events limit told → List Step
+entries_of ReadScript limit told headline = headline.run.entries
+entries_of (Generated seed) limit told headline = headline.run.entries
+
 -- the words ask for a run, of which the headline holds
 abbrev pub HasHeadline : {Z : Type 0} → List (String Z) → Observed → Type 0
 HasHeadline words told = (request : Request) × Ask words request × Headline request.events request.sizes.drum told
