@@ -1,5 +1,5 @@
 -- A change of a call on maps, made on pages of which some may be in no frame.
-use Rattle.std.specs.Prelude.{◌≡◌, List, Option, None, Some, Result, Ok, Err}
+use Rattle.std.specs.Prelude.{◌≡◌, ℕ, List, Option, None, Some, Result, Ok, Err}
 use Rattle.page_contracts.specs.declared.answers.Need.{Need}
 use Rattle.call_turns.specs.declared.answer.Answer.{Answer}
 use Rattle.call_turns.specs.declared.turn.Grant.{Grant}
