@@ -34,7 +34,7 @@ puts() {
 # Each program has words that its script puts, and each instruction that a script puts is one of its programs: NAME.mac, and NAME_t.mac for
 # terminal t where that has another.
 programs=0
-for script in "$top"/examples/*.script "$top"/examples/instructions/*.script; do
+for script in "$top"/examples/*.script "$top"/examples/*/*.script; do
     name=${script%.script}
     puts "$script" >"$work/puts"
     cut -d ' ' -f 2- "$work/puts" | sort -u >"$work/all"
@@ -51,7 +51,7 @@ for script in "$top"/examples/*.script "$top"/examples/instructions/*.script; do
     comm -13 "$work/assembled" "$work/instructions" | grep . >&2 && fail "${name#"$top"/}: no program has these instructions of the script"
 done
 [ "$programs" -ge 100 ] || fail "there are only $programs programs"
-for text in "$top"/examples/*.mac "$top"/examples/instructions/*.mac; do
+for text in "$top"/examples/*.mac "$top"/examples/*/*.mac; do
     name=${text%.mac}
     [ -e "$name.script" ] || [ -e "${name%_*}.script" ] || fail "${text#"$top"/}: no script is beside it"
 done

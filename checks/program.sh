@@ -65,7 +65,7 @@ bytes_of() {
 [ -x "$program" ] || exit 1
 
 examples=0
-for script in "$top"/examples/*.script "$top"/examples/instructions/*.script; do
+for script in "$top"/examples/*.script "$top"/examples/*/*.script; do
     name=${script%.script}
     words=run
     [ ! -e "$name.words" ] || words=$(cat "$name.words")
