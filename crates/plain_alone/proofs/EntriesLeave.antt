@@ -1,5 +1,5 @@
 -- What an entry of one terminal leaves of the others: all that is their own. And what it shows, shows there.
-use Rattle.std.proofs.Common.{◌≡◌, ℕ, Bool, true, false, List, [], ◌∷◌, ◌||◌, inl, inr, refl, sym, ◌∙◌, subst}
+use Rattle.std.proofs.Common.{◌≡◌, ℕ, Bool, true, false, cond, List, [], ◌∷◌, ◌++◌, ◌||◌, All, Option, None, Some, inl, inr, refl, sym, ◌∙◌, subst}
 use Rattle.std.specs.Prelude.{◌==◌}
 use Rattle.plain_alone.proofs.OthersLeave.{leave_itself}
 use Rattle.plain_alone.proofs.TypingLeaves.{effect_then, typed_leaves}
@@ -16,15 +16,23 @@ use Rattle.script_texts.specs.declared.event.Event.{Event}
 use Rattle.script_texts.specs.declared.event.Event.TheVariants.{Login, TypeIn, File, Words, Poke, Start, Run, Tick, Evict, Drum, Auto, Examine, Forks, Page, Trace}
 use Rattle.plain_model.specs.Events.{outer}
 use Rattle.plain_alone.proofs.EventsLeave.{at_job_leaves, silent_leaves, examine_leaves, forks_leaves, login_leaves, poke_leaves, start_leaves}
-use Rattle.script_texts.specs.declared.event.Step.TheVariants.{Outer}
+use Rattle.script_texts.specs.declared.event.Step.TheVariants.{Outer, Unit as AUnit, Idle}
+use Rattle.script_texts.specs.declared.event.Step.{Step}
+use Rattle.std.specs.FinMap as map
+use Rattle.machine_names.specs.declared.names.ForkName.{ForkName}
 use Rattle.script_texts.specs.Limits.{FitsStep}
 use Rattle.plain_model.specs.declared.fork.Fork.{Fork}
 use Rattle.plain_model.specs.State.{PlainState}
-use Rattle.plain_model.specs.Unit.{unit_of}
 use Rattle.plain_alone.proofs.CallsDone.{FamiliesLeave, called_leaves}
 use Rattle.plain_alone.proofs.OutsideUnits.{EffectLeaves, unit_leave}
 use Rattle.plain_alone.proofs.WholeStates.{AreWholeStates}
-use Rattle.plain_alone.specs.Parts.{is_event_of}
+use Rattle.std.proofs.lemmas.List.Elements.{All-append, All-cons, All-head, All-nil, All-tail}
+use Rattle.std.specs.Option.{option_map_or}
+use Rattle.script_texts.specs.declared.event.Item.TheVariants.{UnitLine}
+use Rattle.plain_alone.proofs.ShownAt.{IsOnlyAt}
+use Rattle.plain_alone.specs.Parts.{IsOwnOrIdle, is_event_of}
+use Rattle.plain_model.specs.Run.{apply, items_of, unit_line}
+use Rattle.plain_model.specs.Unit.{unit, unit_of}
 
 -- of CFORK and KFORK, what isn't the one is the other
 pub kills : (number : ℕ) → (CFORK == number) ≡ false → makes_or_kills number ≡ true → (KFORK == number) ≡ true
@@ -77,3 +85,42 @@ module _ (Whole : PlainState → Type 0) (states : AreWholeStates Whole) where
   event_leaves s w u (Auto on) fits its = absurd (cc its)
   event_leaves s w u (Page name page) fits its = absurd (cc its)
   event_leaves s w u (Trace mark) fits its = absurd (cc its)
+
+  -- A UNIT under a name shows at the terminal of the name
+  line_shown : (s : PlainState) (name : ForkName) → All (IsOnlyAt name.tty) (unit_line s name)
+  line_shown s name = by s.trace (map.get s.forks name)
+    where
+      by : (b : Bool) (o : Option Fork) → All (IsOnlyAt name.tty) (cond b (option_map_or (λ k. UnitLine name k.body.regs.pc ∷ []) o []) [])
+      by false o = All-nil (IsOnlyAt name.tty)
+      by true None = All-nil (IsOnlyAt name.tty)
+      by true (Some k) = All-cons (IsOnlyAt name.tty) (UnitLine name k.body.regs.pc) [] (λ t. refl) (All-nil (IsOnlyAt name.tty))
+
+  unit_shown : (s : PlainState) → Whole s → (name : ForkName) → IsTerminal name.tty → All (IsOnlyAt name.tty) (unit s name).items
+  unfolding unit
+  unit_shown s w name on = by (map.get s.forks name) refl
+    where
+      by : (o : Option Fork) → map.get s.forks name ≡ o → (let e = option_map_or (unit_of s) o (record { state = s; items = [] }) in All (IsOnlyAt name.tty) e.items)
+      by None is = All-nil (IsOnlyAt name.tty)
+      by (Some f) is =
+          let named : f.name ≡ name = states.own s w name f is in
+          let l = unit_leaves s w f (subst (λ (n : ForkName). IsTerminal n.tty) (sym named) on) in
+          subst (λ (n : ForkName). All (IsOnlyAt n.tty) (unit_of s f).items) named l.items
+
+  -- AN ENTRY of a terminal shows there and nowhere else, and an idle one shows nothing
+  entry_shown : (s : PlainState) → Whole s → (t : Tty) (x : Step) → FitsStep x → IsOwnOrIdle t x → All (IsOnlyAt t) (apply s x).items
+  unfolding apply
+  entry_shown s w t (Outer e) fits (inl its) = let l = event_leaves s w t e fits its in l.items
+  entry_shown s w t (AUnit name) fits (inl its) =
+      subst (λ (u : Tty). All (IsOnlyAt u) (unit_line s name ++ (unit s name).items)) (same_tty t name.tty its)
+      (All-append (IsOnlyAt name.tty) (unit_line s name) (unit s name).items (line_shown s name) (unit_shown s w name fits.0))
+  entry_shown s w t Idle fits its = All-nil (IsOnlyAt t)
+  entry_shown s w t (Outer e) fits (inr idle) = absurd (cc idle)
+  entry_shown s w t (AUnit name) fits (inr idle) = absurd (cc idle)
+
+  -- and so does a run of them
+  pub run_shown : (xs : List Step) (s : PlainState) → Whole s → (t : Tty) → All FitsStep xs → All (IsOwnOrIdle t) xs → All (IsOnlyAt t) (items_of s xs)
+  run_shown [] s w t fits own = All-nil (IsOnlyAt t)
+  run_shown (x ∷ xs) s w t fits own =
+      let now = All-head FitsStep x xs fits in
+      All-append (IsOnlyAt t) (apply s x).items (items_of (apply s x).state xs) (entry_shown s w t x now (All-head (IsOwnOrIdle t) x xs own))
+      (run_shown xs (apply s x).state (states.keeps s x w now) t (All-tail FitsStep x xs fits) (All-tail (IsOwnOrIdle t) x xs own))

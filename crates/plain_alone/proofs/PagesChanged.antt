@@ -27,14 +27,18 @@ use Rattle.plain_pages.specs.Maps.{entry_at, full_access, set_entry}
 use Rattle.plain_pages.specs.NewMaps.{empty_map, following_map, new_map, with_map}
 use Rattle.plain_pages.specs.PlainPages.{Map, Maps, NamedPages}
 use Rattle.plain_pages.specs.Room.{page_in, uses}
-use Rattle.plain_pages.specs.References.{with_changed, with_entry, without_fork}
+use Rattle.plain_pages.specs.References.{with_changed, with_entry}
 use Rattle.plain_pages.specs.WholePages.{AreWhole}
 use Rattle.plain_pages.proofs.Chains.{entry_other, entry_set, keys_set, slot_tells}
-use Rattle.plain_pages.proofs.FilesKept.{files_apart, filed_files, filed_maps, filed_still, filed_whole, set_elsewhere, set_here, without_maps, without_still, without_whole}
+use Rattle.plain_pages.proofs.FilesKept.{files_apart, filed_files, filed_maps, filed_still, filed_whole, set_elsewhere, set_here, without_maps as maps_of_files, without_still, without_whole}
 use Rattle.plain_pages.proofs.Kept.{AreStill, entry_kept, entry_maps, entry_whole, fork_kept, fork_maps, fork_whole, still}
 use Rattle.plain_pages.proofs.Whole.{map_whole}
-use Rattle.plain_model.proofs.ForkMaps.{cases_name, get_gone, get_gone_other, get_put, get_put_other}
+use Rattle.plain_model.proofs.ForkMaps.{cases_name, get_put, get_put_other}
 use Rattle.plain_model.proofs.Keyed.{left_page}
+use Rattle.plain_model.proofs.MapsGone.{get_left, gone_leaves}
+use Rattle.plain_model.specs.ForkCalls.{without_maps}
+use Rattle.plain_laws.proofs.Killed.{AreFewer}
+use Rattle.plain_alone.proofs.OwnForks.{GoSame}
 use Rattle.plain_alone.specs.Alike.{NamesAlike}
 use Rattle.plain_alone.specs.Renamed.{renamed, renamed_entry}
 use Rattle.plain_alone.proofs.PagesMade.{there_too}
@@ -60,6 +64,15 @@ new_same : (list : List ℕ) (entries : NewMap) (i : ℕ) → option_map (rename
 unfolding empty_map following_map
 new_same list EmptyMap i = same_entries list SPACE_PAGES i
 new_same list (FollowAll f) i = same_follows list f.serial (range_with_len 0 SPACE_PAGES) i
+
+-- pages without some maps are those before, but for what nobody names any more
+still_left : (p : NamedPages) (goes : ForkName → Bool) → AreFewer p (without_maps p goes) → AreStill p (without_maps p goes)
+still_left p goes fewer = record {
+  objects = fewer.objects;
+  page_serials = ap (λ (r : NamedPages). r.page_serials) (gone_leaves p goes);
+  console_serial = ap (λ (r : NamedPages). r.console_serial) (gone_leaves p goes);
+  limit = ap (λ (r : NamedPages). r.limit) (gone_leaves p goes);
+}
 
 module _ (t : Tty) (terminal : IsTerminal t) (used : List ℕ → Bool) (list : List ℕ) (p q : NamedPages) (b : BothAlike t terminal used list p q) where
   abbrev Both : NamedPages → NamedPages → Type 0
@@ -225,10 +238,10 @@ module _ (t : Tty) (terminal : IsTerminal t) (used : List ℕ → Bool) (list : 
       (λ g other. left_page nat_list_cmp_total name_cmp_apart q name g ∙ ap (λ o. cond (not (eq_by_cmp name_cmp g.file name)) o None) (b.alike.names.no_files g other) ∙ none (not (eq_by_cmp name_cmp g.file name)))
     where
       maps_p : (without_file p name).maps ≡ p.maps
-      maps_p = without_maps nat_list_cmp_total name_cmp_apart p name
+      maps_p = maps_of_files nat_list_cmp_total name_cmp_apart p name
 
       maps_q : (without_file q name).maps ≡ q.maps
-      maps_q = without_maps nat_list_cmp_total name_cmp_apart q name
+      maps_q = maps_of_files nat_list_cmp_total name_cmp_apart q name
 
       passed : (c : Bool) (o : Option PageName) → cond c (option_map (renamed list) o) None ≡ option_map (renamed list) (cond c o None)
       passed true o = refl
@@ -243,41 +256,46 @@ module _ (t : Tty) (terminal : IsTerminal t) (used : List ℕ → Bool) (list : 
 
   -- ---- maps
 
-  module _ (k : ForkName) (own : k.tty.0 ≡ t.0) where
-    -- A FORK THAT GOES, with its map
-    pub gone_alike : (m n : Map) → map.get p.maps k ≡ Some m → map.get q.maps k ≡ Some n → Both (without_fork p k) (without_fork q k)
-    gone_alike m n is also = still_alike (without_fork p k) (without_fork q k) (still p (without_fork p k) kept) (still q (without_fork q k) kept_too) (fork_whole p b.whole k m is) (fork_whole q b.alone k n also) entries maps no_maps
-        (λ f its. ap (λ x. map.get x f) kept.files ∙ b.alike.names.files f its ∙ sym (ap (λ x. option_map (renamed list) (map.get x f)) kept_too.files)) (λ f other. ap (λ x. map.get x f) kept_too.files ∙ b.alike.names.no_files f other)
+  -- SOME FORKS OF THE JOB GO, with their maps
+  module _ (goes also : ForkName → Bool) (same : GoSame t goes also) (fewer : AreFewer p (without_maps p goes)) (fewer_too : AreFewer q (without_maps q also)) where
+    pub gone_alike : Both (without_maps p goes) (without_maps q also)
+    gone_alike = still_alike (without_maps p goes) (without_maps q also) (still_left p goes fewer) (still_left q also fewer_too) fewer.whole fewer_too.whole entries maps no_maps
+        (λ f its. ap (λ x. map.get x f) fewer.files ∙ b.alike.names.files f its ∙ sym (ap (λ x. option_map (renamed list) (map.get x f)) fewer_too.files)) (λ f other. ap (λ x. map.get x f) fewer_too.files ∙ b.alike.names.no_files f other)
       where
-        kept : Rattle.plain_pages.proofs.Kept.AreKept p (without_fork p k)
-        kept = fork_kept p b.whole k m is
+        left_p : (f : ForkName) → map.get (without_maps p goes).maps f ≡ cond (not (goes f)) (map.get p.maps f) None
+        left_p f = ap (λ (r : NamedPages). map.get r.maps f) (gone_leaves p goes) ∙ get_left p.maps goes f
 
-        kept_too : Rattle.plain_pages.proofs.Kept.AreKept q (without_fork q k)
-        kept_too = fork_kept q b.alone k n also
+        left_q : (f : ForkName) → map.get (without_maps q also).maps f ≡ cond (not (also f)) (map.get q.maps f) None
+        left_q f = ap (λ (r : NamedPages). map.get r.maps f) (gone_leaves q also) ∙ get_left q.maps also f
 
-        maps_p : (without_fork p k).maps ≡ map.remove p.maps k
-        maps_p = fork_maps p b.whole k m is
+        -- alone the same are left
+        left_mine : (f : ForkName) → f.tty.0 ≡ t.0 → map.get (without_maps q also).maps f ≡ cond (not (goes f)) (map.get q.maps f) None
+        left_mine f mine = left_q f ∙ ap (λ c. cond (not c) (map.get q.maps f) None) (same.mine f mine)
 
-        maps_q : (without_fork q k).maps ≡ map.remove q.maps k
-        maps_q = fork_maps q b.alone k n also
-
-        entries : (s : Slot) → s.fork.tty.0 ≡ t.0 → entry_at (without_fork p k).maps s ≡ option_map (renamed_entry list) (entry_at (without_fork q k).maps s)
-        entries s mine = ap (λ (x : Maps). entry_at x s) maps_p ∙ by (cases_name s.fork k) ∙ sym (ap (λ (x : Maps). option_map (renamed_entry list) (entry_at x s)) maps_q)
+        entries : (s : Slot) → s.fork.tty.0 ≡ t.0 → entry_at (without_maps p goes).maps s ≡ option_map (renamed_entry list) (entry_at (without_maps q also).maps s)
+        entries s mine =
+            ap (option_and_then (λ x. slice_get x s.page)) (left_p s.fork) ∙ by (not (goes s.fork))
+            ∙ sym (ap (λ (o : Option Map). option_map (renamed_entry list) (option_and_then (λ x. slice_get x s.page) o)) (left_mine s.fork mine))
           where
-            by : (s.fork ≡ k) ⊎ (s.fork ≡ k → ⊥) → entry_at (map.remove p.maps k) s ≡ option_map (renamed_entry list) (entry_at (map.remove q.maps k) s)
-            by (inl same) = ap (λ (o : Option Map). option_and_then (λ x. slice_get x s.page) o) (get_gone p.maps k s.fork same) ∙ sym (ap (λ (o : Option Map). option_map (renamed_entry list) (option_and_then (λ x. slice_get x s.page) o)) (get_gone q.maps k s.fork same))
-            by (inr other) = ap (λ (o : Option Map). option_and_then (λ x. slice_get x s.page) o) (get_gone_other p.maps k s.fork other) ∙ b.alike.names.entries s mine ∙ sym (ap (λ (o : Option Map). option_map (renamed_entry list) (option_and_then (λ x. slice_get x s.page) o)) (get_gone_other q.maps k s.fork other))
+            by : (c : Bool) → option_and_then (λ (x : Map). slice_get x s.page) (cond c (map.get p.maps s.fork) None) ≡ option_map (renamed_entry list) (option_and_then (λ (x : Map). slice_get x s.page) (cond c (map.get q.maps s.fork) None))
+            by true = b.alike.names.entries s mine
+            by false = refl
 
-        maps : (f : ForkName) → f.tty.0 ≡ t.0 → map.contains_key (without_fork p k).maps f ≡ map.contains_key (without_fork q k).maps f
-        maps f mine = ap (λ (x : Maps). map.contains_key x f) maps_p ∙ by (cases_name f k) ∙ sym (ap (λ (x : Maps). map.contains_key x f) maps_q)
+        maps : (f : ForkName) → f.tty.0 ≡ t.0 → map.contains_key (without_maps p goes).maps f ≡ map.contains_key (without_maps q also).maps f
+        maps f mine = ap is_some (left_p f) ∙ by (not (goes f)) ∙ sym (ap is_some (left_mine f mine))
           where
-            by : (f ≡ k) ⊎ (f ≡ k → ⊥) → map.contains_key (map.remove p.maps k) f ≡ map.contains_key (map.remove q.maps k) f
-            by (inl same) = ap is_some (get_gone p.maps k f same) ∙ sym (ap is_some (get_gone q.maps k f same))
-            by (inr other) = ap is_some (get_gone_other p.maps k f other) ∙ b.alike.names.maps f mine ∙ sym (ap is_some (get_gone_other q.maps k f other))
+            by : (c : Bool) → is_some (cond c (map.get p.maps f) None) ≡ is_some (cond c (map.get q.maps f) None)
+            by true = b.alike.names.maps f mine
+            by false = refl
 
-        no_maps : (f : ForkName) → f.tty.0 ≢ t.0 → map.contains_key (without_fork q k).maps f ≡ false
-        no_maps f other = ap (λ (x : Maps). map.contains_key x f) maps_q ∙ ap is_some (get_gone_other q.maps k f (λ e. other (ap (λ (n : ForkName). n.tty.0) e ∙ own))) ∙ b.alike.names.no_maps f other
+        no_maps : (f : ForkName) → f.tty.0 ≢ t.0 → map.contains_key (without_maps q also).maps f ≡ false
+        no_maps f other = ap is_some (left_q f) ∙ by (not (also f))
+          where
+            by : (c : Bool) → is_some (cond c (map.get q.maps f) None) ≡ false
+            by true = b.alike.names.no_maps f other
+            by false = refl
 
+  module _ (k : ForkName) (own : k.tty.0 ≡ t.0) where
     -- A FORK MORE, with its map
     pub added_alike : map.get p.maps k ≡ None → map.get q.maps k ≡ None → (entries : NewMap) → Both (with_map p k entries) (with_map q k entries)
     added_alike none also entries = record { alike = record { names = names; words = b.alike.words }; whole = map_whole p b.whole k none entries on; alone = map_whole q b.alone k also entries on }

@@ -5,4 +5,7 @@
 
 mod laws;
 
-pub use laws::{legal_entries_can_be_run, terminals_see_their_own_work_alone};
+pub use laws::{
+    busy_jobs_are_apart, legal_entries_can_be_run, one_terminal_is_shown_all,
+    terminals_see_their_own_work_alone,
+};
