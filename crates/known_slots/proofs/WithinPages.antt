@@ -1,9 +1,7 @@
 -- What is told of pages is told of what has them.
-use Rattle.std.proofs.Common.{◌≡◌, ℕ, refl, sym, subst}
-use Rattle.page_contracts.specs.Stores.{IsUsed, StoreMeaning}
-use Rattle.page_contracts.specs.Pages.{HasSpace, OnlyUses, StaysAlike, StaysPut}
-use Rattle.page_contracts.specs.declared.answers.SpaceHandle.{SpaceHandle}
-use Rattle.flat_pages.specs.SlotMeaning.{within}
+use Rattle.std.proofs.Common.{◌≡◌, refl, sym, subst}
+use Rattle.page_contracts.specs.Stores.{StoreMeaning}
+use Rattle.page_contracts.specs.Pages.{OnlyUses, StaysAlike, StaysPut}
 use Rattle.paged_tables.specs.PagedSlots.{paged_slots}
 use Rattle.pager_walk.specs.PagedMaps.{look_at, seen_for}
 use Rattle.paged_tables.specs.PagedTables.{Beside, FitsPages, plain_over}
@@ -27,17 +25,6 @@ module _ {Q P S : Type 0} (store : StoreMeaning S) (part : P → S) (beside : P 
 
   pub only_within : (p q : Q) → OnlyUses (paged_slots store part beside) (pages p) (pages q) → OnlyUses (paged_slots store (λ r. part (pages r)) (λ r. beside (pages r))) p q
   only_within p q o = record { fits = o.fits; plain = o.plain; put = put_within p q o.put; loses = o.loses }
-
-  pub uses_within : (home : ℕ) (p q : Q) → IsUsed (within store part) home (pages p) (pages q) → IsUsed (within store (λ r. part (pages r))) home p q
-  uses_within home p q u = record {
-    framed = record { frames = u.framed.frames; spare = u.framed.spare; found = u.framed.found; tenant = u.framed.tenant; members = u.framed.members };
-    rescued = record { queue = u.rescued.queue; untold = u.rescued.untold };
-    holds = u.holds;
-    ages = u.ages;
-  }
-
-  pub space_within : (p : Q) (space : SpaceHandle) → HasSpace (paged_slots store (λ r. part (pages r)) (λ r. beside (pages r))) p space → HasSpace (paged_slots store part beside) (pages p) space
-  space_within p space h = record { fork = h.fork; is = h.is }
 
   -- what has the same pages is alike
   pub alike_within : (p q : Q) → pages q ≡ pages p → StaysAlike (paged_slots store (λ r. part (pages r)) (λ r. beside (pages r))) p q

@@ -28,7 +28,7 @@ use Rattle.paged_tables.specs.SetEntries.{SetsSlot}
 use Rattle.paged_tables.proofs.EntryChanged.{entry_seen}
 use Rattle.paged_tables.proofs.UsedPlaces.{others_again}
 use Rattle.paged_tables.proofs.EntryPut.{held_at}
-use Rattle.paged_tables.proofs.FreedDone.{word_near}
+use Rattle.paged_tables.proofs.NearEntries.{word_near}
 use Rattle.paged_tables.proofs.Homed.{sized}
 use Rattle.paged_tables.proofs.ReadyHomes.{words_here}
 use Rattle.paged_tables.proofs.WalksTold.{slot_is}

@@ -82,7 +82,7 @@ module _ {S : Type 0} (store : StoreMeaning S) (old new : S) (b b' : Beside) (ke
 
   unfiled : filed_total z.home.0 b.files ≡ 0
   unfiled =
-      let none = no_name b places kept z.home owner own (here zero_words) refl z.made.below z.made.was_free 0 0 0 in
+      let none = no_name b places kept z.home owner own (here zero_words) refl z.made.below z.made.was_free in
       let few = subst (λ (o : Option PageName). share_of b.filed z.home.0 ≤ count_of b.tables.shares o (share_at b.shared z.home.0)) none (kept.files.few z.home.0) in
       omega (arith, few, kept.files.count z.home.0)
 

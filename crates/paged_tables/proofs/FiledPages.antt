@@ -33,10 +33,10 @@ module _ (b : Beside) (places : List HomePlace) (kept : AreKept b places) (home 
   title = next_name b.serials owner
 
   nameless : name_at b.tables.names home.0 ≡ None
-  nameless = no_name b places kept home owner own page is_page below was 0 0 0
+  nameless = no_name b places kept home owner own page is_page below was
 
   within : home.0 < length b.tables.names
-  within = below_names b places kept home owner own page is_page below was 0 0 0
+  within = below_names b places kept home owner own page is_page below was
 
   -- no file named the page
   pub unfiled : share_of b.filed home.0 ≡ 0
@@ -53,7 +53,7 @@ module _ (b : Beside) (places : List HomePlace) (kept : AreKept b places) (home 
 
   pub filed_kept : AreRooted (with_name b.tables home (next_name b.serials owner)) (map is_taken (slice_set places home.0 page)) → AreKept (page_filed b f home owner) (slice_set places home.0 page)
   filed_kept rooted =
-      let kept' = new_kept b places kept home owner own page is_page below was 0 0 0 rooted in
+      let kept' = new_kept b places kept home owner own page is_page below was rooted in
       let files : AreFiled (page_filed b f home owner) = record {
         within = filed_within b.files f home bounds kept.files.within;
         homes = length-set b.filed home.0 1 ∙ kept'.files.homes;

@@ -1,8 +1,8 @@
 -- An entry was set that alone named a page, which was given up.
 use Rattle.std.proofs.Common.{◌≡◌, ◌≢◌, inl, inr, ℕ, ◌<◌, List, Bool, true, false, Option, None, Some, is_some, map, refl, sym, ◌∙◌, ap, subst, arith}
-use Rattle.std.specs.Prelude.{slice_index, slice_index_or, slice_set, ◌&&◌, ◌==◌}
+use Rattle.std.specs.Prelude.{slice_index_or, slice_set, ◌&&◌, ◌==◌}
 use Rattle.std.specs.FinMap as fin
-use Rattle.std.specs.Option.{option_and_then, option_map_or}
+use Rattle.std.specs.Option.{option_and_then}
 use Rattle.std.proofs.lemmas.Bool.{cases_eq}
 use Rattle.std.proofs.lemmas.Bool.Decides.{eqb_tells}
 use Rattle.std.proofs.lemmas.List.{get_or-set_same, get_or-set_other}
@@ -14,20 +14,19 @@ use Rattle.machine_names.specs.declared.names.TheConstants.{SPACE_PAGES}
 use Rattle.page_homes.specs.declared.homes.Home.{Home}
 use Rattle.page_contracts.specs.DrumWords.{DrumWords}
 use Rattle.page_contracts.specs.Pages.{StaysInCore}
-use Rattle.page_contracts.specs.Stores.{HomePlace, FitsHomes, StoreMeaning, away_at, away_home, content, free, here, is_taken, place, traffic, with_word_in, word_in}
+use Rattle.page_contracts.specs.Stores.{HomePlace, FitsHomes, StoreMeaning, away_at, away_home, content, free, is_taken, place, traffic, with_word_in}
 use Rattle.page_contracts.proofs.Losing.{freed_none, freed_stays, loses_freed, loses_on, loses_used, renews_left, used_there}
 use Rattle.plain_pages.specs.References.{with_entry as entry_put}
 use Rattle.share_table.specs.declared.pointer.Pointer.{Pointer}
 use Rattle.share_table.specs.Pointers.{IsPointer, pointer_word}
-use Rattle.share_table.specs.Shares.{Shares}
-use Rattle.pager_walk.specs.declared.paged_entry.Looked.TheVariants.{Is, Refused}
+use Rattle.pager_walk.specs.declared.paged_entry.Looked.TheVariants.{Is}
 use Rattle.pager_walk.specs.declared.paged_entry.PagedEntry.{PagedEntry}
 use Rattle.pager_walk.specs.declared.paged_entry.PagedEntry.TheVariants as paged
 use Rattle.pager_walk.specs.declared.map_pages.MapPage.{MapPage}
 use Rattle.pager_walk.specs.MapPages.{fork_at, index_of, root_at}
-use Rattle.pager_walk.specs.PagedMaps.{FitsMaps, Tables, entry_in, is_near, look_at, look_map, look_word, map_away, name_at, plain_entry}
+use Rattle.pager_walk.specs.PagedMaps.{FitsMaps, Tables, entry_in, is_near, look_at, map_away, name_at, plain_entry}
 use Rattle.pager_walk.specs.Walks.{IsNearSlot}
-use Rattle.pager_walk.proofs.Changing.{content_other, content_same, entry_back, fits_still, near_here, pointer_put}
+use Rattle.pager_walk.proofs.Changing.{content_other, content_same, entry_back, fits_still, pointer_put}
 use Rattle.pager_walk.proofs.Looking.{ArePages, taken_map, taken_within}
 use Rattle.pager_walk.proofs.NumberedMaps.{index_fork}
 use Rattle.flat_tables.specs.declared.held_entry.EntryAt.{EntryAt}
@@ -60,6 +59,7 @@ use Rattle.paged_tables.proofs.EntryLooks.{sets_one}
 use Rattle.paged_tables.proofs.EntryPut.{Held, held_at, memory_put}
 use Rattle.paged_tables.proofs.FreedWords.{fits_without, memory_without}
 use Rattle.paged_tables.proofs.Moved.{maps_fit, memory_same}
+use Rattle.paged_tables.proofs.NearEntries.{near_on}
 use Rattle.paged_tables.proofs.Places.{places_set, root_set}
 use Rattle.paged_tables.proofs.SlotTold.{slot_told}
 use Rattle.paged_tables.proofs.WalksTold.{maps, slot_is}
@@ -68,24 +68,6 @@ use Rattle.paged_tables.proofs.RenamedDone.{one_unfiled}
 use Rattle.paged_tables.proofs.RenamedPages.{one_named}
 use Rattle.paged_tables.proofs.StillScenes.{away_put}
 use Rattle.paged_tables.proofs.Touched.{named_apart}
-
--- a look finds a word that is in a frame
-pub word_near : (t : Tables) (home : Home) (words : List ℕ) (offset : ℕ) → is_near (look_word t home (word_in (here words) offset)) ≡ true
-word_near t home words offset = by (entry_in t (slice_index words offset))
-  where
-    by : (o : Option PagedEntry) → is_near (option_map_or Is o Refused) ≡ true
-    by None = refl
-    by (Some x) = refl
-
--- whatever the names and shares
-pub near_same : (t : Tables) (places : List HomePlace) (at : Slot) (names : List (Option PageName)) (shares : Shares) → is_near (look_at t places at) ≡ true → is_near (look_at (record t { names = names; shares = shares }) places at) ≡ true
-near_same t places at names shares near = by (index_of t.maps at.fork) near
-  where
-    by : (o : Option ℕ) → is_near (look_map t places at.page o) ≡ true → is_near (look_map (record t { names = names; shares = shares }) places at.page o) ≡ true
-    by None e = e
-    by (Some k) e =
-        let x = near_here t (root_at t.maps k) (place places (root_at t.maps k).0) at.page e in
-        ap (λ p. is_near (look_word (record t { names = names; shares = shares }) (root_at t.maps k) (word_in p at.page))) x.1 ∙ word_near (record t { names = names; shares = shares }) (root_at t.maps k) x.0 at.page
 
 module _ (b : Beside) (places : List HomePlace) (kept : AreKept b places) (home : Home) (one : has_one_name b home.0 ≡ true) where
   apart : (k : ℕ) (f : ForkName) → fork_at b.tables.maps k ≡ Some f → (root_at b.tables.maps k).0 ≢ home.0
@@ -99,13 +81,7 @@ module _ (b : Beside) (places : List HomePlace) (kept : AreKept b places) (home 
 
   -- the entry can be looked at still
   pub freed_near : (at : Slot) → is_near (look_at b.tables places at) ≡ true → is_near (look_at (page_freed b home).tables mid at) ≡ true
-  freed_near at near = by (index_of b.tables.maps at.fork) refl near
-    where
-      by : (o : Option ℕ) → index_of b.tables.maps at.fork ≡ o → is_near (look_map b.tables places at.page o) ≡ true → is_near (look_map (page_freed b home).tables mid at.page o) ≡ true
-      by None is e = e
-      by (Some k) is e =
-          let x = near_here b.tables (root_at b.tables.maps k) (place places (root_at b.tables.maps k).0) at.page e in
-          ap (λ p. is_near (look_word (page_freed b home).tables (root_at b.tables.maps k) (word_in p at.page))) (roots k at.fork (index_fork b.tables.maps at.fork k is) ∙ x.1) ∙ word_near (page_freed b home).tables (root_at b.tables.maps k) x.0 at.page
+  freed_near at near = near_on b.tables (page_freed b home).tables places mid at refl (λ k is. roots k at.fork (index_fork b.tables.maps at.fork k is)) near
 
 module _ {S : Type 0} (store : StoreMeaning S) (old new : S) (b b' : Beside) (kept : AreKept b (store.homes old)) (kept' : AreKept b' (store.homes new)) (pages : ArePages (store.homes old)) (pages' : ArePages (store.homes new)) (home : Home) (one : has_one_name b home.0 ≡ true)
     (at : Slot) (near : IsNearSlot b.tables (store.homes old) at) (a : Access) (looks : look_at b.tables (store.homes old) at ≡ Is (paged.Page home a)) (pointer : Pointer) (valid : IsPointer pointer) (p : PagedEntry) (bare : bare_entry pointer ≡ Some p)

@@ -13,7 +13,7 @@ use Rattle.pager_walk.specs.declared.paged_entry.Looked.TheVariants.{Is}
 use Rattle.pager_walk.specs.declared.paged_entry.PagedEntry.{PagedEntry}
 use Rattle.pager_walk.specs.declared.paged_entry.PagedEntry.TheVariants as paged
 use Rattle.pager_walk.specs.MapPages.{index_of, root_at}
-use Rattle.pager_walk.specs.PagedMaps.{FitsMaps, Tables, entry_for, entry_in, is_near, look_at, name_at}
+use Rattle.pager_walk.specs.PagedMaps.{FitsMaps, entry_for, entry_in, is_near, look_at, name_at}
 use Rattle.pager_walk.specs.Walks.{IsNearSlot}
 use Rattle.pager_walk.proofs.Changing.{pointer_put}
 use Rattle.pager_walk.proofs.Looking.{ArePages}
@@ -31,14 +31,10 @@ use Rattle.paged_tables.specs.MadePages.{pointer_to, with_shares}
 use Rattle.paged_tables.specs.MapsInMemory.{in_memory}
 use Rattle.paged_tables.specs.PagedTables.{Beside, AreKept, FitsPages, in_memory_over}
 use Rattle.paged_tables.specs.SetEntries.{JoinsEntry, PutsPointer, SetsSlot}
-use Rattle.paged_tables.proofs.FreedDone.{near_same}
 use Rattle.paged_tables.proofs.Joining.{counted, join_beside, join_counts, join_entries, join_kept}
+use Rattle.paged_tables.proofs.NearEntries.{near_words}
 use Rattle.paged_tables.proofs.PutDone.{after, put_done, put_held, put_slot}
 use Rattle.paged_tables.proofs.RenamedPages.{pointer_fits, pointer_names}
-
--- tables with the same maps find a word of one in a frame where others do
-near_words : (t' t : Tables) (places : List HomePlace) (at : Slot) → t'.maps ≡ t.maps → is_near (look_at t places at) ≡ true → is_near (look_at t' places at) ≡ true
-near_words t' t places at same near = subst (λ ms. is_near (look_at (record t' { maps = ms }) places at) ≡ true) (sym same) (near_same t places at t'.names t'.shares near)
 
 -- to the same page, or to none as before
 module _ {S : Type 0} (store : StoreMeaning S) (old new : S) (b b' : Beside) (kept : AreKept b (store.homes old)) (kept' : AreKept b' (store.homes new)) (pages : ArePages (store.homes old)) (pages' : ArePages (store.homes new))

@@ -28,6 +28,7 @@ pub mod Sharing
 pub mod LeftOnce
 pub mod EntryPut
 pub mod RenamedPages
+pub mod NearEntries
 pub mod PagesMade
 pub mod FiledPages
 pub mod MemoryWays

@@ -18,9 +18,10 @@ use Rattle.share_table.specs.Pointers.{pointer_word}
 use Rattle.pager_walk.specs.declared.paged_entry.PagedEntry.TheVariants as paged
 use Rattle.pager_walk.specs.MapPages.{fork_at, root_at, index_of}
 use Rattle.pager_walk.specs.PagedMaps.{Tables, AreRooted, entry_in, is_near, look_at, look_map, name_at, with_name}
-use Rattle.pager_walk.proofs.Changing.{content_other, entry_back, taken_still}
+use Rattle.pager_walk.proofs.Changing.{content_other, entry_back}
 use Rattle.pager_walk.proofs.Looking.{ArePages, taken_map}
 use Rattle.pager_walk.proofs.NamedPages.{same_word}
+use Rattle.pager_walk.proofs.NumberedMaps.{index_fork}
 use Rattle.flat_tables.specs.declared.held_entry.EntryAt.{EntryAt}
 use Rattle.flat_tables.specs.declared.held_entry.HeldEntry.TheVariants.{Page}
 use Rattle.flat_tables.specs.HeldMaps as flat
@@ -36,7 +37,7 @@ use Rattle.paged_tables.specs.PagedPlaces.{page_places}
 use Rattle.paged_tables.specs.PagedTables.{Beside, AreKept, FitsPages, in_memory_over}
 use Rattle.paged_tables.proofs.Counted.{counts_set}
 use Rattle.paged_tables.proofs.EntryPut.{memory_put, pages_put, put_places}
-use Rattle.paged_tables.proofs.Moved.{kept_moved}
+use Rattle.paged_tables.proofs.NearEntries.{near_on}
 use Rattle.paged_tables.proofs.NewForks.{free_apart}
 use Rattle.paged_tables.proofs.Places.{IsNoRoot, place_here, place_same, places_set}
 use Rattle.paged_tables.proofs.WalksTold.{maps}
@@ -72,14 +73,8 @@ taken_one free e = absurd (cc e)
 taken_one away e = refl
 taken_one (here words) e = refl
 
--- a home that was free is taken, and then a word of a page is put
-module _ (b : Beside) (places : List HomePlace) (kept : AreKept b places) (home : Home) (owner : Tty) (own : IsOwner owner) (page : HomePlace) (is_page : is_taken page ≡ true) (below : home.0 < length places) (was : place places home.0 ≡ free) (root offset word : ℕ) where
-  abbrev mid : List HomePlace
-  mid = slice_set places home.0 page
-
-  abbrev pub made_places : List HomePlace
-  made_places = slice_set mid root (with_word_in (place mid root) offset word)
-
+-- a home that was free is taken
+module _ (b : Beside) (places : List HomePlace) (kept : AreKept b places) (home : Home) (owner : Tty) (own : IsOwner owner) (page : HomePlace) (is_page : is_taken page ≡ true) (below : home.0 < length places) (was : place places home.0 ≡ free) where
   abbrev name : PageName
   name = next_name b.serials owner
 
@@ -107,7 +102,6 @@ module _ (b : Beside) (places : List HomePlace) (kept : AreKept b places) (home 
     ];
   }
 
-  -- no word is put yet
   pub new_kept : AreRooted (with_name b.tables home (next_name b.serials owner)) (map is_taken (slice_set places home.0 page)) → AreKept (page_named b home owner) (slice_set places home.0 page)
   new_kept rooted = record {
     rooted = rooted;
@@ -129,8 +123,11 @@ module _ (b : Beside) (places : List HomePlace) (kept : AreKept b places) (home 
     few = kept.few;
   }
 
-  pub made_kept : AreRooted (with_name b.tables home (next_name b.serials owner)) (map is_taken (slice_set places home.0 page)) → AreKept (page_named b home owner) made_places
-  made_kept rooted = kept_moved (page_named b home owner) mid made_places (new_kept rooted) (taken_still mid root (with_word_in (place mid root) offset word) (taken_word (place mid root) offset word))
+  -- an entry is found that was
+  pub named_near : (at : Slot) → is_near (look_at b.tables places at) ≡ true → is_near (look_at (page_named b home owner).tables (slice_set places home.0 page) at) ≡ true
+  named_near at near =
+      near_on b.tables (page_named b home owner).tables places (slice_set places home.0 page) at refl
+      (λ k is. get_or-set_other places home.0 (root_at b.tables.maps k).0 page free (free_apart b.tables places kept.rooted home.0 was k at.fork (index_fork b.tables.maps at.fork k is))) near
 
 -- what is told of the page that is made
 module _ {S : Type 0} (store : StoreMeaning S) (old new : S) (b b' : Beside) (kept : AreKept b (store.homes old)) (pages : ArePages (store.homes old)) (pages' : ArePages (store.homes new)) (owner : Tty) (own : IsOwner owner)

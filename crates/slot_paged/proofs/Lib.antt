@@ -1,1 +1,3 @@
 pub mod HousedPages
+pub mod SettledPages
+pub mod ChangedEntries

@@ -22,9 +22,42 @@ impl<S: Store> SlotPaged<S> {
     ghost use Rattle.flat_pages.specs.FileSteps.{HasHome};
     ghost use Rattle.paged_tables.specs.FreedEntries.{FreesEntry, KeepsHomes};
     ghost use Rattle.paged_tables.specs.LeftShares.{left_of};
+    ghost use Rattle.paged_tables.specs.MadePages.{pointer_to, with_shares};
     ghost use Rattle.paged_tables.specs.PagedTables.{beside_of};
     ghost use Rattle.paged_tables.specs.PagedTouches.{has_one_name};
     ghost use Rattle.paged_tables.specs.SetEntries.{FindsEntry, FreesPage, JoinsEntry, PutsPointer, SetsSlot, bare_entry};
+
+    // The page that an entry names is named once less, where it keeps another name. The entry stays.
+    pub(crate) fn leave(&mut self, at: Slot)
+        requires { at.page < SPACE_PAGES }
+        ensures store { self.new.store ≡ self.old.store }
+        ensures beside { beside_of self.new.tables ≡ with_shares (beside_of self.old.tables) (left_of (beside_of self.old.tables) (look_at (beside_of self.old.tables).tables (S.means.homes self.old.store) at)) }
+    {
+        let seen = entry(&self.store, &self.tables.tables, at);
+        self.tables.leave_entry(seen);
+    }
+
+    // The word of a pointer that stands for an entry is put into the map of a slot.
+    pub(crate) fn put_pointer(&mut self, at: Slot, pointer: Pointer)
+        requires page { at.page < SPACE_PAGES }
+        requires near { is_near (look_at (beside_of self.old.tables).tables (S.means.homes self.old.store) at) ≡ true }
+        requires pointer { IsPointer pointer }
+        requires entry { IsSome (entry_for (beside_of self.old.tables).tables pointer) }
+        ensures { PutsPointer S.means self.old.store self.new.store (beside_of self.old.tables) (beside_of self.new.tables) (beside_of self.old.tables).tables.shares (beside_of self.old.tables).shared at pointer }
+    {
+        set(&mut self.store, &self.tables.tables, at, pointer);
+    }
+
+    // The word of the pointer that names the page of a home, which has a name.
+    pub(crate) fn put_page(&mut self, at: Slot, home: Home, access: Access)
+        requires page { at.page < SPACE_PAGES }
+        requires near { is_near (look_at (beside_of self.old.tables).tables (S.means.homes self.old.store) at) ≡ true }
+        requires named { is_some (name_at (beside_of self.old.tables).tables.names home.0) ≡ true }
+        ensures { PutsPointer S.means self.old.store self.new.store (beside_of self.old.tables) (beside_of self.new.tables) (beside_of self.old.tables).tables.shares (beside_of self.old.tables).shared at (pointer_to (beside_of self.old.tables) home access) }
+    {
+        let pointer = self.tables.pointer(home, access);
+        self.put_pointer(at, pointer);
+    }
 
     // An entry is set, and the page that it named has a name fewer, where it keeps another.
     fn put_left(&mut self, at: Slot, pointer: Pointer)
@@ -34,9 +67,8 @@ impl<S: Store> SlotPaged<S> {
         requires bare { IsSome (bare_entry pointer) }
         ensures { PutsPointer S.means self.old.store self.new.store (beside_of self.old.tables) (beside_of self.new.tables) (left_of (beside_of self.old.tables) (look_at (beside_of self.old.tables).tables (S.means.homes self.old.store) at)) (beside_of self.old.tables).shared at pointer }
     {
-        let seen = entry(&self.store, &self.tables.tables, at);
-        self.tables.leave_entry(seen);
-        set(&mut self.store, &self.tables.tables, at, pointer);
+        self.leave(at);
+        self.put_pointer(at, pointer);
     }
 
     // An entry is set in the place of one that alone named the page of a home, which is given up.
@@ -50,7 +82,7 @@ impl<S: Store> SlotPaged<S> {
     {
         self.store.free(home);
         self.tables.drop_page(home);
-        set(&mut self.store, &self.tables.tables, at, pointer);
+        self.put_pointer(at, pointer);
     }
 
     // An entry is set that names no page, and a page that it alone named is given up.
@@ -69,17 +101,6 @@ impl<S: Store> SlotPaged<S> {
         }
     }
 
-    // An entry is set to one of the same page, or of none as before.
-    fn put_kept(&mut self, at: Slot, pointer: Pointer)
-        requires page { at.page < SPACE_PAGES }
-        requires near { is_near (look_at (beside_of self.old.tables).tables (S.means.homes self.old.store) at) ≡ true }
-        requires pointer { IsPointer pointer }
-        requires entry { IsSome (entry_for (beside_of self.old.tables).tables pointer) }
-        ensures { PutsPointer S.means self.old.store self.new.store (beside_of self.old.tables) (beside_of self.new.tables) (beside_of self.old.tables).tables.shares (beside_of self.old.tables).shared at pointer }
-    {
-        set(&mut self.store, &self.tables.tables, at, pointer);
-    }
-
     // An entry that names no page becomes one of a page that has another name.
     fn put_joined(&mut self, at: Slot, home: Home, access: Access)
         requires page { at.page < SPACE_PAGES }
@@ -88,8 +109,7 @@ impl<S: Store> SlotPaged<S> {
         ensures { JoinsEntry S.means self.old.store self.new.store (beside_of self.old.tables) (beside_of self.new.tables) home at access }
     {
         self.tables.join(home);
-        let pointer = self.tables.pointer(home, access);
-        set(&mut self.store, &self.tables.tables, at, pointer);
+        self.put_page(at, home, access);
     }
 
     // An entry is set to a page that a file names.
@@ -141,7 +161,17 @@ impl<S: Store> SlotPaged<S> {
     ghost use Rattle.paged_tables.specs.FreedEntries.{KeepsHomes};
     ghost use Rattle.paged_tables.specs.PagedTables.{beside_of};
     ghost use Rattle.paged_tables.specs.PagedSlots.{filed_over};
-    ghost use Rattle.paged_tables.specs.SetEntries.{ChangesEntry};
+    ghost use Rattle.paged_tables.specs.SetEntries.{ChangesEntry, PutsPointer, pointer_of};
+
+    // No more of an entry that a look finds is permitted than is given.
+    fn narrow_entry(&mut self, slot: Slot, seen: PagedEntry, given: Access)
+        requires page { slot.page < SPACE_PAGES }
+        requires seen { look_at (beside_of self.old.tables).tables (S.means.homes self.old.store) slot ≡ looked.Is seen }
+        ensures { PutsPointer S.means self.old.store self.new.store (beside_of self.old.tables) (beside_of self.new.tables) (beside_of self.old.tables).tables.shares (beside_of self.old.tables).shared slot (pointer_of (beside_of self.old.tables) (narrow_paged given seen)) }
+    {
+        let pointer = self.tables.pointer_of(narrowed(seen, given));
+        self.put_pointer(slot, pointer);
+    }
 
     // An entry is set anew that a look finds.
     fn change(&mut self, slot: Slot, seen: PagedEntry, new: NewEntry)
@@ -163,10 +193,7 @@ impl<S: Store> SlotPaged<S> {
                 };
                 self.set_page(slot, home, access);
             }
-            NewEntry::Narrow(access) => {
-                let pointer = self.tables.pointer_of(narrowed(seen, access));
-                self.put_kept(slot, pointer);
-            }
+            NewEntry::Narrow(access) => self.narrow_entry(slot, seen, access),
         }
     }
 

@@ -8,10 +8,9 @@ ghost use Rattle.paged_tables.specs.MadePages.{page_like};
 
 use crate::slot_paged::SlotPaged;
 use machine_names::{Access, FileNo, Kind, PageName, Place, Slot, Tty};
-use page_contracts::{Room, Store, Touch};
+use page_contracts::{Room, Store};
 use page_homes::Home;
-use paged_tables::PageHome;
-use pager_walk::{FULL_ACCESS, MapTables, Walked, Way, copy_page, entry, make_page, set, walk};
+use pager_walk::{FULL_ACCESS, MapTables, Walked, Way, copy_page, make_page, walk};
 use share_table::Pointer;
 
 // A page with a name in a home of its own: a zero page, or one with the words of another, which is in a frame.
@@ -42,13 +41,32 @@ impl<S: Store> SlotPaged<S> {
     ghost use Rattle.machine_names.specs.Bounds.{IsFilePage, IsOwner};
     ghost use Rattle.machine_names.specs.Orders.{file_page};
     ghost use Rattle.page_homes.specs.declared.homes.Home.{Home as AHome};
-    ghost use Rattle.page_contracts.specs.Stores.{is_here, place};
+    ghost use Rattle.page_contracts.specs.DrumWords.{DrumWords};
+    ghost use Rattle.page_contracts.specs.Stores.{IsMade, is_here, place};
     ghost use Rattle.flat_tables.specs.Serials.{serial_of};
-    ghost use Rattle.pager_walk.specs.PagedMaps.{is_near, look_at};
+    ghost use Rattle.pager_walk.specs.PagedMaps.{FitsMaps, is_near, look_at};
     ghost use Rattle.paged_tables.specs.LeftShares.{left_of};
-    ghost use Rattle.paged_tables.specs.MadePages.{FilesPage, MakesPage, RenamesPage, page_like};
+    ghost use Rattle.paged_tables.specs.MadePages.{FilesPage, MakesPage, RenamesPage, page_like, page_named};
     ghost use Rattle.paged_tables.specs.PagedTables.{beside_of};
     ghost use Rattle.paged_tables.specs.PagedTouches.{has_one_name, roomy};
+
+    // A page more, with an owner's next name, in a home of its own: a zero page, or a copy of one that is in a frame. Nothing names it yet.
+    fn add_page(&mut self, from: Option<Home>, owner: Tty) -> Home
+        requires from { (h : AHome) → from ≡ Some h → is_here (place (S.means.homes self.old.store) h.0) ≡ true }
+        requires owner { IsOwner owner }
+        requires serial { serial_of self.old.tables.serials owner < 2 ^ 63 }
+        requires room { roomy (beside_of self.old.tables) 1 ≡ true }
+        requires frame { 0 < S.means.spare self.old.store }
+        ensures made { IsMade S.means result.0 (page_like (S.means.homes self.old.store) from) self.old.store self.new.store }
+        ensures beside { beside_of self.new.tables ≡ page_named (beside_of self.old.tables) result owner }
+        ensures fits { (d : DrumWords) → FitsMaps (beside_of self.old.tables).tables (S.means.homes self.old.store) d → FitsMaps (beside_of self.new.tables).tables (S.means.homes self.new.store) d }
+    {
+        let name = self.tables.take_name(owner);
+        let home = new_page(&mut self.store, &mut self.tables.tables, from, name);
+        self.tables.unshare(home);
+        self.tables.taken += 1;
+        home
+    }
 
     // A page in a home of its own, which an entry names in the place of what it named: a zero page, or a copy of another.
     fn make_named(&mut self, at: Slot, from: Option<Home>, access: Access, owner: Tty)
@@ -62,14 +80,9 @@ impl<S: Store> SlotPaged<S> {
         ensures { MakesPage S.means self.old.store self.new.store (beside_of self.old.tables) (beside_of self.new.tables) at (page_like (S.means.homes self.old.store) from) access
             (left_of (beside_of self.old.tables) (look_at (beside_of self.old.tables).tables (S.means.homes self.old.store) at)) owner }
     {
-        let seen = entry(&self.store, &self.tables.tables, at);
-        self.tables.leave_entry(seen);
-        let name = self.tables.take_name(owner);
-        let home = new_page(&mut self.store, &mut self.tables.tables, from, name);
-        self.tables.unshare(home);
-        self.tables.taken += 1;
-        let pointer = Pointer::Private(home, access);
-        set(&mut self.store, &self.tables.tables, at, pointer);
+        self.leave(at);
+        let home = self.add_page(from, owner);
+        self.put_pointer(at, Pointer::Private(home, access));
     }
 
     // A copy of a page that has no other name takes its home.
@@ -84,8 +97,7 @@ impl<S: Store> SlotPaged<S> {
     {
         self.store.used(home);
         self.tables.rename(home, owner);
-        let pointer = self.tables.pointer(home, access);
-        set(&mut self.store, &self.tables.tables, at, pointer);
+        self.put_page(at, home, access);
     }
 
     // A zero page in a home of its own, for a file that has no such page.
@@ -98,11 +110,8 @@ impl<S: Store> SlotPaged<S> {
         requires frame { 0 < S.means.spare self.old.store }
         ensures { FilesPage S.means self.old.store self.new.store (beside_of self.old.tables) (beside_of self.new.tables) (file_page file.0 page) owner }
     {
-        let name = self.tables.take_name(owner);
-        let home = make_page(&mut self.store, &mut self.tables.tables, name);
-        self.tables.unshare(home);
+        let home = self.add_page(None, owner);
         self.tables.file(file, page, home);
-        self.tables.taken += 1;
     }
 }
 

@@ -13,7 +13,6 @@ use pager_walk::{
     set, walk,
 };
 use plain_pages::NewMap;
-use share_table::Pointer;
 use std::alloc::Global;
 use word36::Word;
 

@@ -1,22 +1,17 @@
-use Rattle.std.proofs.Common.{◌≡◌, Option, None, is_some, refl, sym, ◌∙◌, ap, subst}
+use Rattle.std.proofs.Common.{◌≡◌, Option, None, refl, sym, ◌∙◌, ap, subst}
 use Rattle.std.specs.Prelude.{IsSome}
 use Rattle.std.specs.Option.{option_map}
 use Rattle.machine_names.specs.declared.names.PageName.{PageName}
 use Rattle.machine_names.specs.Orders.{file_page}
 use Rattle.plain_pages.specs.declared.map.NewEntry.TheVariants as new_entry
 use Rattle.plain_pages.specs.NewEntries.{IsNewEntry}
-use Rattle.share_table.specs.declared.pointer.Pointer.{Pointer}
-use Rattle.share_table.specs.Pointers.{IsPointer, pointer_word}
 use Rattle.pager_walk.specs.declared.paged_entry.PagedEntry.TheVariants as paged
-use Rattle.pager_walk.specs.PagedMaps.{entry_for, is_near, name_of, plain_entry}
+use Rattle.pager_walk.specs.PagedMaps.{name_of, plain_entry}
 use Rattle.flat_tables.proofs.FiledHomes.{get_filed}
-use Rattle.paged_tables.specs.PagedTables.{Beside, beside_of}
+use Rattle.paged_tables.specs.PagedTables.{beside_of}
 use Rattle.paged_tables.specs.PagedSlots.{filed_over}
-use Rattle.paged_tables.specs.SetEntries.{ChangesEntry, PutsPointer, narrow_paged, pointer_of}
-use Rattle.paged_tables.proofs.EntryChanged.{changes, narrow_is, page_is}
-use Rattle.paged_tables.proofs.HomesKept.{word_keeps}
-use Rattle.paged_tables.proofs.JoinDone.{kept_done}
-use Rattle.paged_tables.proofs.NarrowEntry.{narrow_fits, narrow_follows, narrow_points, narrow_stands}
+use Rattle.paged_tables.proofs.EntryChanged.{page_is}
+use Rattle.slot_paged.proofs.ChangedEntries.{narrowed_anew, narrowed_keeps, set_anew}
 use Rattle.slot_paged.proofs.slot_paged.SlotPaged.change.Goals as goal
 
 pub unreachable-requires : goal.unreachable-requires
@@ -27,92 +22,25 @@ unreachable-requires g c =
     let none : filed_over b f ≡ None = get_filed b.tables.names b.files f ∙ ap (option_map (name_of b.tables.names)) (sym c.filed.ensures ∙ c.in_default.is) in
     (let z = subst (λ (o : Option PageName). IsSome o) none some in cc z)
 
-pub put_kept-requires-clause-pointer : goal.put_kept-requires-clause-pointer
-put_kept-requires-clause-pointer g c =
-    let s = c.args.self.now in
-    let b = beside_of s.tables in
-    let store = g.S.Store.means in
-    let places = store.homes s.store in
-    let r = c.requires in
-    let at = c.args.slot in
-    let q = c.args.seen in
-    let a = c.in-Narrow.access in
-    let pointer : c.pointer_of-pointer.result ≡ pointer_of b (narrow_paged a q) = c.pointer_of-pointer.ensures ∙ ap (pointer_of b) c.narrowed.ensures in
-    subst IsPointer (sym pointer) (narrow_fits b places s.kept at a q r.seen)
-
-pub put_kept-requires-clause-entry : goal.put_kept-requires-clause-entry
-put_kept-requires-clause-entry g c =
-    let s = c.args.self.now in
-    let b = beside_of s.tables in
-    let store = g.S.Store.means in
-    let places = store.homes s.store in
-    let r = c.requires in
-    let at = c.args.slot in
-    let q = c.args.seen in
-    let a = c.in-Narrow.access in
-    let pointer : c.pointer_of-pointer.result ≡ pointer_of b (narrow_paged a q) = c.pointer_of-pointer.ensures ∙ ap (pointer_of b) c.narrowed.ensures in
-    subst (λ (p : Pointer). IsSome (entry_for b.tables p)) (sym pointer) (ap is_some (narrow_stands b places s.kept at a q r.seen))
-
 pub returns-in-Empty-clause-changes : goal.returns-in-Empty-clause-changes
 returns-in-Empty-clause-changes g c =
-    let s = c.args.self.now in
-    let b = beside_of s.tables in
-    let store = g.S.Store.means in
-    let pages = (g.met.S.Store.sound s.store).pages in
-    let r = c.requires in
-    let at = c.args.slot in
-    let q = c.args.seen in
-    let new = c.set_unnamed.new.self in
-    subst (ChangesEntry store s.store new.store b (beside_of new.tables) at) (sym c.in-Empty.is) (changes store s.store new.store b (beside_of new.tables) s.kept pages at r.page q r.seen new_entry.Empty paged.Empty (c.set_unnamed.ensures.sets paged.Empty refl) (λ d. refl))
+    set_anew g.met.S.Store.sound c.args.self.now c.set_unnamed.new.self c.args.slot c.requires.page c.args.seen c.requires.seen c.args.new new_entry.Empty c.in-Empty.is paged.Empty (c.set_unnamed.ensures.sets paged.Empty refl) (λ d. refl)
 
 pub returns-in-Follows-clause-changes : goal.returns-in-Follows-clause-changes
 returns-in-Follows-clause-changes g c =
-    let s = c.args.self.now in
-    let b = beside_of s.tables in
-    let store = g.S.Store.means in
-    let pages = (g.met.S.Store.sound s.store).pages in
-    let r = c.requires in
-    let at = c.args.slot in
-    let q = c.args.seen in
-    let new = c.set_unnamed-in-Follows.new.self in
     let e = paged.Follows c.in-Follows.serial c.in-Follows.page c.in-Follows.access in
-    subst (ChangesEntry store s.store new.store b (beside_of new.tables) at) (sym c.in-Follows.is)
-    (changes store s.store new.store b (beside_of new.tables) s.kept pages at r.page q r.seen (new_entry.Follows c.in-Follows.serial c.in-Follows.page c.in-Follows.access) e (c.set_unnamed-in-Follows.ensures.sets e refl) (λ d. refl))
+    set_anew g.met.S.Store.sound c.args.self.now c.set_unnamed-in-Follows.new.self c.args.slot c.requires.page c.args.seen c.requires.seen c.args.new (new_entry.Follows c.in-Follows.serial c.in-Follows.page c.in-Follows.access) c.in-Follows.is e
+    (c.set_unnamed-in-Follows.ensures.sets e refl) (λ d. refl)
 
 pub returns-in-Some-clause-changes : goal.returns-in-Some-clause-changes
 returns-in-Some-clause-changes g c =
     let s = c.args.self.now in
     let b = beside_of s.tables in
-    let store = g.S.Store.means in
-    let places = store.homes s.store in
-    let pages = (g.met.S.Store.sound s.store).pages in
-    let r = c.requires in
-    let at = c.args.slot in
-    let q = c.args.seen in
-    let new = c.set_page.new.self in
-    let home = c.in-Some.home in
-    let there = sym c.filed.ensures ∙ c.in-Some.is in
-    subst (ChangesEntry store s.store new.store b (beside_of new.tables) at) (sym c.in-FilePage.is)
-    (changes store s.store new.store b (beside_of new.tables) s.kept pages at r.page q r.seen (new_entry.FilePage c.in-FilePage.file c.in-FilePage.page c.in-FilePage.access) (paged.Page home c.in-FilePage.access) c.set_page.ensures.sets
-    (λ d. page_is b places d c.in-FilePage.file c.in-FilePage.page c.in-FilePage.access home (plain_entry b.tables.names q) there))
+    set_anew g.met.S.Store.sound s c.set_page.new.self c.args.slot c.requires.page c.args.seen c.requires.seen c.args.new (new_entry.FilePage c.in-FilePage.file c.in-FilePage.page c.in-FilePage.access) c.in-FilePage.is (paged.Page c.in-Some.home c.in-FilePage.access) c.set_page.ensures.sets
+    (λ d. page_is b (g.S.Store.means.homes s.store) d c.in-FilePage.file c.in-FilePage.page c.in-FilePage.access c.in-Some.home (plain_entry b.tables.names c.args.seen) (sym c.filed.ensures ∙ c.in-Some.is))
 
 pub returns-in-Narrow-clause-changes : goal.returns-in-Narrow-clause-changes
-returns-in-Narrow-clause-changes g c =
-    let s = c.args.self.now in
-    let b = beside_of s.tables in
-    let store = g.S.Store.means in
-    let places = store.homes s.store in
-    let pages = (g.met.S.Store.sound s.store).pages in
-    let r = c.requires in
-    let at = c.args.slot in
-    let q = c.args.seen in
-    let a = c.in-Narrow.access in
-    let pointer : c.pointer_of-pointer.result ≡ pointer_of b (narrow_paged a q) = c.pointer_of-pointer.ensures ∙ ap (pointer_of b) c.narrowed.ensures in
-    let new = c.put_kept.new.self in
-    let puts = subst (λ (p : Pointer). PutsPointer store s.store new.store b (beside_of new.tables) b.tables.shares b.shared at p) pointer c.put_kept.ensures in
-    let sets = kept_done store s.store new.store b (beside_of new.tables) s.kept new.kept pages (g.met.S.Store.sound new.store).pages at (record { page = r.page; near = ap is_near r.seen }) (pointer_of b (narrow_paged a q)) (narrow_fits b places s.kept at a q r.seen) q (narrow_paged a q) r.seen
-    (narrow_stands b places s.kept at a q r.seen) (narrow_points b places s.kept at a q) (narrow_follows b places s.kept at a q r.seen) puts in
-    subst (ChangesEntry store s.store new.store b (beside_of new.tables) at) (sym c.in-Narrow.is) (changes store s.store new.store b (beside_of new.tables) s.kept pages at r.page q r.seen (new_entry.Narrow a) (narrow_paged a q) sets (λ d. narrow_is b.tables.names a q))
+returns-in-Narrow-clause-changes g c = narrowed_anew g.met.S.Store.sound c.args.self.now c.narrow_entry.new.self c.args.slot c.requires.page c.args.seen c.requires.seen c.in-Narrow.access c.narrow_entry.ensures c.args.new c.in-Narrow.is
 
 pub returns-in-Empty-clause-keeps : goal.returns-in-Empty-clause-keeps
 returns-in-Empty-clause-keeps g c = c.set_unnamed.ensures.frees.keeps
@@ -124,8 +52,4 @@ pub returns-in-Some-clause-keeps : goal.returns-in-Some-clause-keeps
 returns-in-Some-clause-keeps g c = c.set_page.ensures.keeps
 
 pub returns-in-Narrow-clause-keeps : goal.returns-in-Narrow-clause-keeps
-returns-in-Narrow-clause-keeps g c =
-    let s = c.args.self.now in
-    let new = c.put_kept.new.self in
-    let z = c.put_kept.ensures in
-    word_keeps g.S.Store.means s.store new.store (beside_of s.tables) (beside_of new.tables) s.kept c.args.slot z.number z.numbered (pointer_word c.pointer_of-pointer.result) z.homes (ap (λ (x : Beside). x.tables.names) z.beside)
+returns-in-Narrow-clause-keeps g c = narrowed_keeps g.met.S.Store.sound c.args.self.now c.narrow_entry.new.self c.args.slot c.requires.page c.args.seen c.requires.seen c.in-Narrow.access c.narrow_entry.ensures

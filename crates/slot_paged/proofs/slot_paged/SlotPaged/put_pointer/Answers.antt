@@ -7,7 +7,7 @@ use Rattle.pager_walk.proofs.Changing.{taken_still}
 use Rattle.paged_tables.specs.PagedTables.{AreKept, beside_of}
 use Rattle.paged_tables.proofs.Moved.{kept_moved}
 use Rattle.paged_tables.proofs.PagesMade.{near_number, taken_word}
-use Rattle.slot_paged.proofs.slot_paged.SlotPaged.put_kept.Goals as goal
+use Rattle.slot_paged.proofs.slot_paged.SlotPaged.put_pointer.Goals as goal
 
 pub invariant_of-self : goal.invariant_of-self
 invariant_of-self g c =
