@@ -1,5 +1,5 @@
 -- Jobs that are busy and share nothing: each has a fork that loops.
-use Rattle.std.specs.Prelude.{◌≡◌, ℕ, Bool, false, Some, slice_index}
+use Rattle.std.specs.Prelude.{◌≡◌, ℕ, false, Some, slice_index}
 use Rattle.std.specs.FinMap as map
 use Rattle.machine_names.specs.declared.names.ForkName.{ForkName}
 use Rattle.script_texts.specs.declared.event.Step.{Step}

@@ -1,7 +1,23 @@
 // What the definitions say of a terminal among others, in the words of those who use them. A law does nothing when it runs.
-ghost use Rattle.std.specs.Prelude.{◌≡◌, ◌≢◌, ℕ, Bool, [], List, All};
+ghost use Rattle.std.specs.Prelude.{◌≡◌, ◌≢◌, ◌≤◌, ℕ, Bool, true, [], List, All, None};
+ghost use Rattle.std.specs.FinMap as map;
+ghost use Rattle.machine_names.specs.Orders.{name_cmp};
+ghost use Rattle.machine_names.specs.declared.names.ForkName.{ForkName as AForkName};
+ghost use Rattle.machine_names.specs.declared.names.Kind.{Kind as AKind};
+ghost use Rattle.machine_names.specs.declared.names.TheConstants.{MOST_FILES};
 ghost use Rattle.machine_names.specs.declared.names.Tty.{Tty as ATty};
+ghost use Rattle.script_texts.specs.declared.event.Event.{Event as AnEvent};
 ghost use Rattle.script_texts.specs.declared.event.Step.{Step as AStep};
+ghost use Rattle.plain_pages.specs.PlainPages.{NamedPages};
+ghost use Rattle.plain_pages.specs.References.{Spot, full, reference};
+ghost use Rattle.plain_units.specs.declared.registers.Regs.{Regs as ARegs};
+ghost use Rattle.plain_model.specs.declared.call.TheConstants.{DISMS, GTJFN, TIME};
+ghost use Rattle.plain_model.specs.declared.fork.Fork.{Fork as AFork};
+ghost use Rattle.plain_model.specs.Families.{Parts};
+ghost use Rattle.plain_model.specs.Unit.{parts_of};
+ghost use Rattle.plain_laws.specs.JfnLaws.{AsksFor};
+ghost use Rattle.plain_alone.specs.Looks.{is_used};
+ghost use Rattle.plain_alone.specs.Notes.{call_notes, event_notes, unmade_at};
 ghost use Rattle.script_texts.specs.Limits.{FitsStep};
 ghost use Rattle.plain_model.specs.Run.{AreLegal, items_of};
 ghost use Rattle.plain_model.specs.State.{PlainState, opening};
@@ -33,4 +49,19 @@ pub fn one_terminal_is_shown_all()
 /// does, and in whatever order.
 pub fn busy_jobs_are_apart()
     ensures { (t : ATty) (used : List ℕ → Bool) (s : PlainState) (entries : List AStep) → All (IsBusy s) entries → IsApart t used s entries }
+{}
+
+/// What breaks a premise is noted where it comes: there is a page for which there was no room exactly where a reference
+/// is answered by Full; TIME and DISMS ask for the clock; and the limit of files stops a FILE of a new name.
+pub fn what_breaks_a_premise_is_noted()
+    ensures full { (p : NamedPages) (at : Spot (List ℕ)) (kind : AKind) (owner : ATty) → reference p at kind owner ≡ full → unmade_at p at kind owner ≢ [] }
+    ensures room { (p : NamedPages) (at : Spot (List ℕ)) (kind : AKind) (owner : ATty) → (reference p at kind owner ≡ full → ⊥) → unmade_at p at kind owner ≡ [] }
+    ensures time { (v : Parts name_cmp) (who : AForkName) (regs : ARegs) → (let n = call_notes v who regs TIME in n.timed ≡ true) }
+    ensures sleep { (v : Parts name_cmp) (who : AForkName) (regs : ARegs) → (let n = call_notes v who regs DISMS in n.timed ≡ true) }
+    ensures files { (s : PlainState) (name : List ℕ) → map.get s.files name ≡ None → MOST_FILES ≤ map.len s.files → (let n = event_notes s (AnEvent.File name) in n.crowded ≡ true) }
+{}
+
+/// GTJFN uses the name that its text reads as, whether or not a JFN is free.
+pub fn names_that_are_read_are_used()
+    ensures { (s : PlainState) (f : AFork) (name : List ℕ) (q : NamedPages) → AsksFor s f name q → (let n = call_notes (parts_of s) f.name f.body.regs GTJFN in is_used n.looks name ≡ true) }
 {}
