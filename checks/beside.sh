@@ -34,10 +34,11 @@ for script in "$top"/examples/beside/*.script; do
     name=$(basename "${script%.script}")
     words=run
     [ ! -e "${script%.script}.words" ] || words=$(cat "${script%.script}.words")
+    without <"$script" >"$work/script"
     # shellcheck disable=SC2086 # the words of a command are separate arguments
     at_1 $words <"$script" >"$work/beside"
     # shellcheck disable=SC2086
-    without <"$script" | at_1 $words >"$work/alone"
+    at_1 $words <"$work/script" >"$work/alone"
     [ -s "$work/beside" ] || fail "$name: terminal 1 shows nothing"
     case $name in
         apart_*) cmp -s "$work/beside" "$work/alone" || fail "$name: by itself terminal 1 shows something else" ;;
