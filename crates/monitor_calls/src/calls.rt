@@ -190,7 +190,8 @@ pub fn reach_of(number: u32) -> Reach
         return Reach::Made;
     }
     match family_of(number) {
-        Some(CallFamily::Forks) | Some(CallFamily::Interrupts) | Some(CallFamily::Clock) => Reach::Job,
+        Some(CallFamily::Forks) | Some(CallFamily::Interrupts) | Some(CallFamily::Clock) =>
+            Reach::Job,
         _ => Reach::Own,
     }
 }

@@ -12,8 +12,8 @@ pub fn one_reading()
     ensures fronts { (text rest : List ℕ) (read lines : List RecordLine) (v : Verdict) → BeginsWith text read rest → ReadsAs text lines v → (more : List RecordLine) × (lines ≡ read ++ more) }
 {}
 
-/// The record of a run that is done, of either version, is the text of its lines. Within its limits it reads as these, to its
-/// end, and they tell its entries and the drum's size again.
+/// The record of a run that is done, of either version, is the text of lines that tell its entries and the drum's size again, and within its
+/// limits it reads as these, to its end.
 pub fn records_read_back()
     ensures text { (size : Option ℕ) (entries : List AStep) (reads writes : ℕ) → said_all (lines_of_record size entries reads writes) ≡ whole_record size entries reads writes }
     ensures reads { (size : Option ℕ) (entries : List AStep) (reads writes : ℕ) → CanBeRead size entries reads writes → ReadsAs (whole_record size entries reads writes) (lines_of_record size entries reads writes) whole }
