@@ -257,21 +257,67 @@ cases=$((cases + 1))
 [ $? -eq 1 ] || fail "standard error that is closed: another status than 1"
 [ "$(cat "$work/out")" = '?USAGE' ] && [ ! -s "$work/at/tenex.record" ] || fail "standard error that is closed: the help stands elsewhere"
 
-# A run that is stopped leaves what was done before the line at hand, once that was much.
+# A run that is stopped leaves what was done before the line at hand, once that was much: whole lines in both texts.
+{ printf 'LOGIN 0 A\nPOKE 0 100 254000000100\nSTART 0 100\nRUN 100001\nEXAMINE 0 1 100\nRUN 100001\n' && yes 'RUN 1000000' | head -n 100000; } >"$work/long"
+for signal in KILL TERM INT; do
+    fresh
+    cases=$((cases + 1))
+    # (a command in the background of a script ignores INT, but for env)
+    (cd "$work/at" && exec env --default-signal=INT "$program" run) <"$work/long" >"$work/out" &
+    run=$!
+    for ((tries = 0; tries < 200; tries++)); do
+        ! grep -q '^EXAMINE' "$work/at/tenex.record" 2>/dev/null || break
+        sleep 0.1
+    done
+    kill -"$signal" "$run"
+    wait "$run" 2>/dev/null
+    [ $? -gt 128 ] || fail "a run that is stopped by $signal: it goes on"
+    printf 'T0 @\nX 0 1 000100 254000000100\n' | cmp -s - "$work/out" || fail "a run that is stopped by $signal: its transcript is '$(cat "$work/out")'"
+    printf 'LOGIN 0 A\nPOKE 0 100 254000000100\nSTART 0 100\nU 0 1 100001\nEXAMINE 0 1 100\n' | cmp -s -n 75 - "$work/at/tenex.record" ||
+        fail "a run that is stopped by $signal: its record is '$(head -c 200 "$work/at/tenex.record")'"
+done
+
+# A disk that is full, as a limit of 8 blocks for each file: the text is a front of that of the whole run, and the status tells.
+{ printf 'LOGIN 0 A\n' && yes 'EXAMINE 0 1 0' | head -n 2000; } >"$work/script"
+fresh
+(cd "$work/at" && "$program" run) <"$work/script" >"$work/whole_out" && mv "$work/at/tenex.record" "$work/whole"
+# full NAME TEXT WHOLE: of the run in the folder at hand this text, which met the limit, is a front of the whole one.
+full() {
+    local found=$?
+    cases=$((cases + 1))
+    [ "$found" -eq 6 ] || fail "$1: status $found, wanted 6"
+    local size
+    size=$(wc -c <"$2")
+    [ "$size" -gt 0 ] && [ "$size" -lt "$(wc -c <"$3")" ] && cmp -s -n "$size" "$2" "$3" || fail "$1: what was written is no front, $size bytes"
+}
+fresh
+(trap '' XFSZ && ulimit -f 8 && cd "$work/at" && exec "$program" run) <"$work/script" 2>"$work/messages" | cat >"$work/out"
+(exit "${PIPESTATUS[0]}")
+full "a disk that is full for the record" "$work/at/tenex.record" "$work/whole"
+grep -q '^tenex: tenex.record: ' "$work/messages" || fail "a disk that is full for the record: '$(cat "$work/messages")'"
+fresh
+ln -s /dev/null "$work/at/tenex.record"
+(trap '' XFSZ && ulimit -f 8 && cd "$work/at" && exec "$program" run) <"$work/script" >"$work/out" 2>/dev/null
+full "a disk that is full for the transcript" "$work/out" "$work/whole_out"
+
+# A second run in the folder of one that is at work leaves its record alone, and says so.
 fresh
 cases=$((cases + 1))
-{ printf 'LOGIN 0 A\nPOKE 0 100 254000000100\nSTART 0 100\nRUN 100001\nEXAMINE 0 1 100\nRUN 100001\n' && yes 'RUN 1000000' | head -n 100000; } >"$work/script"
-(cd "$work/at" && exec "$program" run) <"$work/script" >"$work/out" &
+mkfifo "$work/lines"
+(cd "$work/at" && exec "$program" run) <"$work/lines" >"$work/first" &
 run=$!
+exec {lines}>"$work/lines"
+printf 'LOGIN 0 A\n' >&"$lines"
 for ((tries = 0; tries < 200; tries++)); do
-    ! grep -q '^EXAMINE' "$work/at/tenex.record" 2>/dev/null || break
+    [ ! -s "$work/at/tenex.record" ] || break
     sleep 0.1
 done
-kill -KILL "$run"
-wait "$run" 2>/dev/null
-printf 'T0 @\nX 0 1 000100 254000000100\n' | cmp -s - "$work/out" || fail "a run that is stopped: its transcript is '$(cat "$work/out")'"
-printf 'LOGIN 0 A\nPOKE 0 100 254000000100\nSTART 0 100\nU 0 1 100001\nEXAMINE 0 1 100\n' | cmp -s -n 75 - "$work/at/tenex.record" ||
-    fail "a run that is stopped: its record is '$(head -c 200 "$work/at/tenex.record")'"
+said='tenex: tenex.record: another run writes the record'
+ends "a second run in one folder" 9 '?CANNOT OPEN\n' 'LOGIN 0 A\n' run <"$top/examples/first.script"
+exec {lines}>&-
+wait "$run" || fail "the first of two runs in one folder: status $?"
+printf 'T0 @\n' | cmp -s - "$work/first" || fail "the first of two runs in one folder: its transcript is '$(cat "$work/first")'"
+printf 'LOGIN 0 A\nE 0 0\n' | cmp -s - "$work/at/tenex.record" || fail "the first of two runs in one folder: its record is '$(cat "$work/at/tenex.record")'"
 
 said='tenex: tenex.record: '
 fresh
@@ -280,6 +326,14 @@ ends "a pipe in the place of the record" 9 '?CANNOT OPEN\n' - run <"$top/example
 fresh
 mkdir "$work/at/tenex.record"
 ends "a record that can't be made" 9 '?CANNOT OPEN\n' - run <"$top/examples/first.script"
+fresh
+ln -s "$work/nowhere/tenex.record" "$work/at/tenex.record"
+ends "a record that is a link to nothing that can be made" 9 '?CANNOT OPEN\n' - run <"$top/examples/first.script"
+said=
+fresh
+ln -s ../elsewhere "$work/at/tenex.record"
+ends "a record that is a link" 0 '' 'E 0 0\n' run </dev/null
+[ "$(cat "$work/elsewhere")" = 'E 0 0' ] || fail "a record that is a link: it stands elsewhere"
 
 if [ "$failures" -ne 0 ]; then
     echo "program.sh: $failures failures in $cases cases" >&2

@@ -5,6 +5,7 @@
 
 mod messages;
 mod program_text;
+mod recording;
 mod watch;
 
 use asm_console::{AsmStatus, Stopped, asm};
@@ -12,18 +13,15 @@ use asm_core::AsmFault;
 use messages::{explain, explain_error, explain_line, explain_stopped, usage};
 use outside::{MOST_DRUM_PAGES, Source, StdSink, StdSource, SureDrum};
 use program_text::Kept;
+use recording::{RECORD, make_record};
 use std::fs::File;
 use std::io::{self, BufWriter, ErrorKind};
-use std::os::unix::fs::FileTypeExt;
 use std::process::ExitCode;
 use std::rt::Env;
 use std::{env, fs};
 use tenex_console::tenex;
 use texts::Status;
 use watch::{BadLine, Watched};
-
-/// The file in the current folder that takes the record.
-const RECORD: &str = "tenex.record";
 
 /// What stands in for a standard stream that is closed: a folder, of which nothing is read and to which nothing is written.
 const NO_STREAM: &str = "/";
@@ -138,26 +136,10 @@ fn cannot_open(rt: &HostRuntime, error: &io::Error) -> u8 {
     refused(rt, "?CANNOT OPEN", CANNOT_OPEN)
 }
 
-/// Whether a pipe stands in the place of the record: the run would wait for someone to read it.
-fn is_pipe(rt: &HostRuntime) -> bool {
-    match fs::metadata(rt, RECORD) {
-        Ok(found) => found.file_type().is_fifo(),
-        Err(_) => false,
-    }
-}
-
-/// Makes the file of the record anew.
-fn make_record(rt: &HostRuntime) -> io::Result<File> {
-    if is_pipe(rt) {
-        return Err(io::Error::other("a pipe can't take the record"));
-    }
-    fs::create(rt, RECORD)
-}
-
 /// Makes the file of the record anew, and runs.
 fn run_recorded(rt: &HostRuntime, words: &[String]) -> u8 {
     match make_record(rt) {
-        Ok(record) => run(rt, words, record),
+        Ok(record) => run(rt, words, record.file),
         Err(error) => cannot_open(rt, &error),
     }
 }
