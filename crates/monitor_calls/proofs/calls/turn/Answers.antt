@@ -53,8 +53,8 @@ use Rattle.monitor_calls.proofs.Sounds.{entry_read, job_read, typing_read}
 use Rattle.monitor_calls.proofs.calls.turn.Goals as goal
 
 -- a call is of this family
-of_call : {number : ℕ} {f g : CallFamily} → Some f ≡ family_of number → f ≡ g → family_of number ≡ Some g
-of_call its is = sym its ∙ ap Some is
+of_call : (number : ℕ) {f g : CallFamily} → Some f ≡ family_of number → f ≡ g → family_of number ≡ Some g
+of_call number its is = sym its ∙ ap Some is
 
 -- the files behind a turn that is done, or needs something first
 by_answer : {P X : Type 0} (old new : P) (tables tables' : FileTables) (a : Answer) → (IsDone a → X) → (tables' ≡ tables → X) → Stays old new tables tables' a → X
@@ -86,7 +86,7 @@ returns-in-Printing-clause-told g c =
       told = λ d fits.
           let p = g.P.Pages.means.plain c.args.pages.now d in
           done_so (key_of was.files) _ _ c.args.who c.args.regs.now c.args.number c.print_call.result c.print_call.ensures.done
-          (print_went (key_of was.files) (parts_in (rest_of was) p) c.args.who c.args.regs.now c.args.number (of_call c.in-Some.ensures c.in-Printing.is) c.print_call.result (c.print_call.ensures.told p));
+          (print_went (key_of was.files) (parts_in (rest_of was) p) c.args.who c.args.regs.now c.args.number (of_call c.args.number c.in-Some.ensures c.in-Printing.is) c.print_call.result (c.print_call.ensures.told p));
       numbers = λ d fits. dir_stays was.files was.files refl;
     }
 
@@ -109,7 +109,7 @@ returns-in-Forks-clause-told g c =
           let p = means.plain c.args.pages.now d in
           let q = means.plain turn.new.pages d in
           fork_turned was who c.args.regs.now c.args.number j.0 j.1 typing at (subst (λ n. who.tty.0 < n) (sym job.room) job.terminal) (subst (λ n. who.tty.0 < n) (sym job.typing_room) job.terminal) turn.new.line turn.ensures.input turn.ensures.trees p turn.new.tree
-          (of_call c.in-Some.ensures c.in-Forks.is) _ q turn.result turn.ensures.line (turn.ensures.told d fits).1;
+          (of_call c.args.number c.in-Some.ensures c.in-Forks.is) _ q turn.result turn.ensures.line (turn.ensures.told d fits).1;
       numbers = λ d fits. dir_stays was.files was.files refl;
     }
 
@@ -147,7 +147,7 @@ returns-in-Interrupts-clause-told g c =
           let p = means.plain c.args.pages.now d in
           let q = means.plain call.new.pages d in
           interrupt_turned was who c.args.regs.now c.args.number j.0 j.1 typing at low room call.new.line call.ensures.input
-          (of_call c.in-Some.ensures c.in-Interrupts.is) call.new.tree (PsiNeeds (means.scene c.args.pages.now) p (numbered interrupt_calls c.args.number (asked_by who c.args.regs.now was.tree))) p q call.result
+          (of_call c.args.number c.in-Some.ensures c.in-Interrupts.is) call.new.tree (PsiNeeds (means.scene c.args.pages.now) p (numbered interrupt_calls c.args.number (asked_by who c.args.regs.now was.tree))) p q call.result
           (call.ensures.told.comes d (files_of was.files) (jobs_of (open_of was.files) was.typed was.jobs) was.clock fits (has_codes was who c.args.regs.now c.args.number j.0 j.1 typing at low room));
       numbers = λ d fits. dir_stays was.files was.files refl;
     }
@@ -188,7 +188,7 @@ returns-in-Clock-clause-told g c =
           let p = means.plain c.args.pages.now d in
           let v = parts_in (rest_of was) p in
           done_so (key_of was.files) v (record v { tree = call.new.tree }) c.args.who c.args.regs.now c.args.number call.result call.ensures.done
-          (clock_went (key_of was.files) v c.args.who c.args.regs.now c.args.number (of_call c.in-Some.ensures c.in-Clock.is) call.new.tree call.result (call.ensures.told p));
+          (clock_went (key_of was.files) v c.args.who c.args.regs.now c.args.number (of_call c.args.number c.in-Some.ensures c.in-Clock.is) call.new.tree call.result (call.ensures.told p));
       numbers = λ d fits. dir_stays was.files was.files refl;
     }
 
@@ -223,7 +223,7 @@ returns-in-Maps-clause-told g c =
       fits = λ d fits. (a.ensures.told d fits).0;
       told = λ d fits.
           let p = means.plain c.args.pages.now d in
-          map_turned was c.args.who c.args.regs.now c.args.number c.requires.job.unheld (of_call c.in-Some.ensures c.in-Maps.is)
+          map_turned was c.args.who c.args.regs.now c.args.number c.requires.job.unheld (of_call c.args.number c.in-Some.ensures c.in-Maps.is)
           (MapNeeds was.files (means.scene c.args.pages.now) p (map_call c.args.number (asked c.args.who c.args.regs.now was.tree was.files))) p (means.plain a.new.pages d) a.result (a.ensures.told d fits).1;
       numbers = λ d fits. dir_stays was.files was.files refl;
     }
@@ -246,7 +246,7 @@ returns-in-Errors-clause-told g c =
       told = λ d fits.
           let p = g.P.Pages.means.plain c.args.pages.now d in
           done_so (key_of was.files) _ _ c.args.who c.args.regs.now c.args.number a.result a.ensures.done
-          (errors_went (key_of was.files) (parts_in (rest_of was) p) c.args.who c.args.regs.now c.args.number (of_call c.in-Some.ensures c.in-Errors.is)
+          (errors_went (key_of was.files) (parts_in (rest_of was) p) c.args.who c.args.regs.now c.args.number (of_call c.args.number c.in-Some.ensures c.in-Errors.is)
           a.result (a.ensures.told p));
       numbers = λ d fits. dir_stays was.files was.files refl;
     }
@@ -289,35 +289,35 @@ pub returns-in-Errors-clause-unmade : goal.returns-in-Errors-clause-unmade
 returns-in-Errors-clause-unmade g c n is = none_made g.P.Pages.means c.args.pages.now c.args.pages.now c.args.who.tty refl refl
 
 -- a turn of a call on JFNs
-pub returns-in-Jfns-clause-told : goal.returns-in-Jfns-clause-told
-returns-in-Jfns-clause-told g c =
+pub returns-in-Some-index-clause-told : goal.returns-in-Some-index-clause-told
+returns-in-Some-index-clause-told g c =
     let means = g.P.Pages.means in
     let was : Tables = record { tree = c.args.tree.now; files = c.args.files.now; jobs = c.args.jobs.now.items; typed = c.args.typed.now.items; clock = c.args.clock } in
-    let j = c.in-Some-in-Jfns.job in
-    let there = job_read was.jobs c.args.who.tty.0 c.index.result.now j c.requires.job.room c.requires.job.terminal c.index.ensures c.in-Some-in-Jfns.is in
+    let j = c.in-Some-index.job in
+    let there = job_read was.jobs c.args.who.tty.0 c.index.result.now j c.requires.job.room c.requires.job.terminal c.index.ensures c.in-Some-index.is in
     let t = c.jfn_call.ensures.told in
     let a = c.jfn_call.result in
     record {
       fits = t.fits;
       told = λ d fits.
           let p = means.plain c.args.pages.now d in
-          jfn_turned was c.args.who c.args.regs.now c.args.number j there c.requires.job.unheld (of_call c.in-Some.ensures c.in-Jfns.is)
+          jfn_turned was c.args.who c.args.regs.now c.args.number j there c.requires.job.unheld (of_call c.args.number c.in-Some.ensures c.in-Jfns.is)
           (TextNeeds (framed means c.args.pages.now d) (asked_of c.args.who c.args.regs.now j.user was.files)) c.jfn_call.new.tables p (means.plain c.jfn_call.new.pages d) a
           (t.comes d (jobs_of (open_of was.files) was.typed was.jobs) fits (jobs_held was.typed was.jobs (open_of was.files) c.requires.job.unheld));
       numbers = λ d fits. by_answer c.args.pages.now c.jfn_call.new.pages was.files c.jfn_call.new.tables a (λ done. numbers_follow was.files c.jfn_call.new.tables _ (t.numbers d fits done)) (λ need. dir_stays was.files c.jfn_call.new.tables (ap (λ (x : FileTables). x.dir) need)) c.jfn_call.ensures.stays;
     }
 
-pub returns-in-Jfns-clause-unheld : goal.returns-in-Jfns-clause-unheld
-returns-in-Jfns-clause-unheld g c = still_unheld c.args.files.now c.jfn_call.new.tables c.args.jobs.now.items c.args.typed.now.items c.args.who.tty c.requires.job c.jfn_call.ensures.others
+pub returns-in-Some-index-clause-unheld : goal.returns-in-Some-index-clause-unheld
+returns-in-Some-index-clause-unheld g c = still_unheld c.args.files.now c.jfn_call.new.tables c.args.jobs.now.items c.args.typed.now.items c.args.who.tty c.requires.job c.jfn_call.ensures.others
 
-pub returns-in-Jfns-clause-stays : goal.returns-in-Jfns-clause-stays
-returns-in-Jfns-clause-stays g c n is = (subst (Stays c.args.pages.now c.jfn_call.new.pages c.args.files.now c.jfn_call.new.tables) is c.jfn_call.ensures.stays).1
+pub returns-in-Some-index-clause-stays : goal.returns-in-Some-index-clause-stays
+returns-in-Some-index-clause-stays g c n is = (subst (Stays c.args.pages.now c.jfn_call.new.pages c.args.files.now c.jfn_call.new.tables) is c.jfn_call.ensures.stays).1
 
-pub returns-in-Jfns-clause-leaves : goal.returns-in-Jfns-clause-leaves
-returns-in-Jfns-clause-leaves g c = grown_leaves g.P.Pages.means c.args.who c.args.tree.now most_makings c.args.pages.now c.jfn_call.new.pages (grows_within g.P.Pages.means c.args.who.tty 128 most_makings c.args.pages.now c.jfn_call.new.pages (omega arith) c.jfn_call.ensures.grows) c.requires.holds
+pub returns-in-Some-index-clause-leaves : goal.returns-in-Some-index-clause-leaves
+returns-in-Some-index-clause-leaves g c = grown_leaves g.P.Pages.means c.args.who c.args.tree.now most_makings c.args.pages.now c.jfn_call.new.pages (grows_within g.P.Pages.means c.args.who.tty 128 most_makings c.args.pages.now c.jfn_call.new.pages (omega arith) c.jfn_call.ensures.grows) c.requires.holds
 
-pub returns-in-Jfns-clause-unmade : goal.returns-in-Jfns-clause-unmade
-returns-in-Jfns-clause-unmade g c n is =
+pub returns-in-Some-index-clause-unmade : goal.returns-in-Some-index-clause-unmade
+returns-in-Some-index-clause-unmade g c n is =
     let means = g.P.Pages.means in
     let same = (subst (Stays c.args.pages.now c.jfn_call.new.pages c.args.files.now c.jfn_call.new.tables) is c.jfn_call.ensures.stays).0 in
     none_made means c.args.pages.now c.jfn_call.new.pages c.args.who.tty (ap means.serial same) (ap means.most same)
@@ -330,7 +330,7 @@ jfn_call-requires-clause-serves g c = record { lives = c.requires.holds.living c
 
 pub unreachable-requires : goal.unreachable-requires
 unreachable-requires g c =
-    let none = entry_read c.args.jobs.now.items c.args.who.tty.0 c.index.result.now c.requires.job.room c.requires.job.terminal c.index.ensures ∙ c.in_default-in-Jfns.is in
+    let none = entry_read c.args.jobs.now.items c.args.who.tty.0 c.index.result.now c.requires.job.room c.requires.job.terminal c.index.ensures ∙ c.in_default-index.is in
     let there = subst IsSome none c.requires.job.there in cc there
 
 -- a turn of a call on bytes
@@ -351,7 +351,7 @@ returns-in-Bytes-clause-told g c =
       told = λ d fits.
           let p = means.plain c.args.pages.now d in
           byte_turned was who c.args.regs.now c.args.number j.0 j.1 job.unheld typing at call.new.tables call.new.input call.ensures.others within typing_within
-          (of_call c.in-Some.ensures c.in-Bytes.is)
+          (of_call c.args.number c.in-Some.ensures c.in-Bytes.is)
           (ByteNeeds was.files (means.scene c.args.pages.now) p (byte_call c.args.number (asked_on who c.args.regs.now was.files typing.input.input p))) p (means.plain call.new.pages d) call.result
           (call.ensures.told.comes d (jobs_of (open_of was.files) was.typed was.jobs) fits (has_line was who c.args.regs.now c.args.number j.0 j.1 job.unheld typing at));
       numbers = λ d fits. dir_stays was.files call.new.tables call.ensures.others.dir;
@@ -407,7 +407,7 @@ returns-in-Strings-clause-told g c =
       told = λ d fits.
           let p = means.plain c.args.pages.now d in
           string_turned was who c.args.regs.now c.args.number j.0 j.1 job.unheld typing at call.new.tables call.new.input call.ensures.others within typing_within
-          (of_call c.in-Some.ensures c.in-Strings.is)
+          (of_call c.args.number c.in-Some.ensures c.in-Strings.is)
           (StringNeeds was.files (means.scene c.args.pages.now) p (string_call c.args.number (asked_on who c.args.regs.now was.files typing.input.input p))) p (means.plain call.new.pages d) call.result
           (call.ensures.told.comes d (jobs_of (open_of was.files) was.typed was.jobs) fits (has_line was who c.args.regs.now c.args.number j.0 j.1 job.unheld typing at));
       numbers = λ d fits. dir_stays was.files call.new.tables call.ensures.others.dir;
@@ -444,20 +444,20 @@ pub call-requires-in-Strings-clause-serves : goal.call-requires-in-Strings-claus
 call-requires-in-Strings-clause-serves g c = record { lives = c.requires.holds.living c.args.who ∙ c.requires.lives; terminal = c.requires.job.terminal }
 
 pub returns-in-Forks-clause-own : goal.returns-in-Forks-clause-own
-returns-in-Forks-clause-own g c own = absurd (job_reaches c.args.number (Some Forks) (of_call c.in-Some.ensures c.in-Forks.is) refl own)
+returns-in-Forks-clause-own g c own = absurd (job_reaches c.args.number (Some Forks) (of_call c.args.number c.in-Some.ensures c.in-Forks.is) refl own)
 
 pub returns-in-Interrupts-clause-own : goal.returns-in-Interrupts-clause-own
-returns-in-Interrupts-clause-own g c own = absurd (job_reaches c.args.number (Some Interrupts) (of_call c.in-Some.ensures c.in-Interrupts.is) refl own)
+returns-in-Interrupts-clause-own g c own = absurd (job_reaches c.args.number (Some Interrupts) (of_call c.args.number c.in-Some.ensures c.in-Interrupts.is) refl own)
 
 pub returns-in-Clock-clause-own : goal.returns-in-Clock-clause-own
-returns-in-Clock-clause-own g c own = absurd (job_reaches c.args.number (Some Clock) (of_call c.in-Some.ensures c.in-Clock.is) refl own)
+returns-in-Clock-clause-own g c own = absurd (job_reaches c.args.number (Some Clock) (of_call c.args.number c.in-Some.ensures c.in-Clock.is) refl own)
 
 -- one call alone makes a fork, and is a fork call
 pub returns-in-Forks-clause-made : goal.returns-in-Forks-clause-made
 returns-in-Forks-clause-made g c made = c.fork_turn.ensures.adds (made_is c.args.number made)
 
 pub returns-in-Interrupts-clause-made : goal.returns-in-Interrupts-clause-made
-returns-in-Interrupts-clause-made g c made = (let both : Some Forks ≡ Some Interrupts = sym (made_family c.args.number made) ∙ of_call c.in-Some.ensures c.in-Interrupts.is in absurd (cc both))
+returns-in-Interrupts-clause-made g c made = (let both : Some Forks ≡ Some Interrupts = sym (made_family c.args.number made) ∙ of_call c.args.number c.in-Some.ensures c.in-Interrupts.is in absurd (cc both))
 
 pub returns-in-Clock-clause-made : goal.returns-in-Clock-clause-made
-returns-in-Clock-clause-made g c made = (let both : Some Forks ≡ Some Clock = sym (made_family c.args.number made) ∙ of_call c.in-Some.ensures c.in-Clock.is in absurd (cc both))
+returns-in-Clock-clause-made g c made = (let both : Some Forks ≡ Some Clock = sym (made_family c.args.number made) ∙ of_call c.args.number c.in-Some.ensures c.in-Clock.is in absurd (cc both))
