@@ -27,7 +27,10 @@ fn is_pipe(rt: &HostRuntime) -> bool {
 /// Keeps other runs from the record, before anything of it is lost. None: a device stands in its place, which runs may
 /// share. A file system without locks keeps nobody out.
 fn keep_others_out(rt: &HostRuntime) -> io::Result<Option<File>> {
-    let held = OpenOptions::new().write(true).create(true).open(rt, RECORD)?;
+    let held = OpenOptions::new()
+        .write(true)
+        .create(true)
+        .open(rt, RECORD)?;
     if !held.metadata()?.is_file() {
         return Ok(None);
     }
