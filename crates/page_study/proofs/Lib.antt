@@ -1,0 +1,4 @@
+pub mod Latest
+pub mod Places
+pub mod Slotted
+pub mod Rows
