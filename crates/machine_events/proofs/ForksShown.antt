@@ -15,7 +15,7 @@ use Rattle.plain_model.specs.Forks.{ForkMap, fork_in, fork_line, superior_of}
 use Rattle.plain_model.specs.Trees.{PlainTree}
 use Rattle.fork_tree.specs.Trees.{IsTree, Lives}
 use Rattle.fork_tree.proofs.Upward.{superior_lives}
-use Rattle.monitor_calls.specs.Limits.{FitsForced, IsBody}
+use Rattle.job_forks.specs.Limits.{FitsForced, IsBody}
 use Rattle.step_shown.specs.Replies.{lines_of}
 
 -- a status whose channel is one of the 36
