@@ -14,8 +14,9 @@ ghost use Rattle.plain_units.specs.declared.registers.Regs.{Regs as ARegs};
 ghost use Rattle.plain_model.specs.declared.call.TheConstants.{DISMS, GTJFN, TIME};
 ghost use Rattle.plain_model.specs.declared.fork.Fork.{Fork as AFork};
 ghost use Rattle.plain_model.specs.Families.{Parts};
-ghost use Rattle.plain_model.specs.Unit.{parts_of};
+ghost use Rattle.plain_model.specs.Unit.{parts_of, unit};
 ghost use Rattle.plain_laws.specs.JfnLaws.{AsksFor};
+ghost use Rattle.plain_laws.specs.Whole.{IsWhole};
 ghost use Rattle.plain_alone.specs.Looks.{is_used};
 ghost use Rattle.plain_alone.specs.Notes.{call_notes, event_notes, unmade_at};
 ghost use Rattle.script_texts.specs.Limits.{FitsStep};
@@ -43,6 +44,15 @@ pub fn legal_entries_can_be_run()
 pub fn one_terminal_is_shown_all()
     ensures there { (t : ATty) (limit : ℕ) (entries : List AStep) → All FitsStep entries → All (IsOwnOrIdle t) entries → shown t (items_of (opening limit) entries) ≡ items_of (opening limit) entries }
     ensures elsewhere { (t u : ATty) (limit : ℕ) (entries : List AStep) → u.0 ≢ t.0 → All FitsStep entries → All (IsOwnOrIdle t) entries → shown u (items_of (opening limit) entries) ≡ [] }
+{}
+
+/// No unit changes a fork of another job, or its map: neither what it does itself, nor a call, nor what is told of a
+/// fork that ends.
+pub fn units_leave_other_jobs()
+    ensures forks { (s : PlainState) (who name : AForkName) → IsWhole s → (name.tty.0 ≡ who.tty.0 → ⊥)
+        → map.get (unit s who).state.forks name ≡ map.get s.forks name }
+    ensures maps { (s : PlainState) (who name : AForkName) → IsWhole s → (name.tty.0 ≡ who.tty.0 → ⊥)
+        → map.get (unit s who).state.pages.maps name ≡ map.get s.pages.maps name }
 {}
 
 /// Jobs whose forks loop in their accumulators are apart from there on, however many there are, however many units each

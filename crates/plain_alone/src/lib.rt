@@ -7,5 +7,6 @@ mod laws;
 
 pub use laws::{
     busy_jobs_are_apart, legal_entries_can_be_run, names_that_are_read_are_used,
-    one_terminal_is_shown_all, terminals_see_their_own_work_alone, what_breaks_a_premise_is_noted,
+    one_terminal_is_shown_all, terminals_see_their_own_work_alone, units_leave_other_jobs,
+    what_breaks_a_premise_is_noted,
 };

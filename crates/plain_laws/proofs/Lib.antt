@@ -42,7 +42,6 @@ pub mod OtherJobs
 pub mod ClockTurns
 pub mod Sleeps
 pub mod UnitForks
-pub mod UnitJobs
 pub mod RowsPut
 pub mod WrittenFiles
 pub mod MappedFiles

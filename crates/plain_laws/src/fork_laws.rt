@@ -43,15 +43,6 @@ pub fn frozen_forks_run_when_resumed()
         → map.get (unit s who).state.forks name ≡ Some g → (g.frozen ≡ true) ⊎ UnitResumes s who name }
 {}
 
-/// No unit changes a fork of another job, or its map: neither what it does itself, nor a call, nor what is told of a
-/// fork that ends.
-pub fn units_leave_other_jobs()
-    ensures forks { (s : PlainState) (who name : AForkName) → IsWhole s → (name.tty.0 ≡ who.tty.0 → ⊥)
-        → map.get (unit s who).state.forks name ≡ map.get s.forks name }
-    ensures maps { (s : PlainState) (who name : AForkName) → IsWhole s → (name.tty.0 ≡ who.tty.0 → ⊥)
-        → map.get (unit s who).state.pages.maps name ≡ map.get s.pages.maps name }
-{}
-
 /// The moves of an act are all that it changes of who can run: a fork starts exactly where it can run afterwards and could
 /// not before, and stops exactly where it could and can't any more, or is gone.
 pub fn moves_are_who_can_run()

@@ -33,7 +33,7 @@ pub use example::{empty_script, first_script};
 pub use file_laws::{files_are_made_once, pages_are_shown, words_are_put};
 pub use fork_laws::{
     frozen_forks_run_when_resumed, killed_forks_take_their_pages, moves_are_who_can_run,
-    units_leave_other_jobs, waiters_go_on_when_a_fork_has_ended,
+    waiters_go_on_when_a_fork_has_ended,
 };
 pub use interrupt_laws::{
     assigned_characters_reach_their_fork, channels_are_pending_until_they_are_delivered,

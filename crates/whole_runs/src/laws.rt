@@ -7,8 +7,7 @@ use plain_laws::{
     access_is_that_of_all_entries, chains_are_short, copies_are_made_once, empty_script,
     entries_fit, first_script, followers_read_the_followed, frozen_forks_run_when_resumed,
     killed_forks_take_their_pages, narrowing_never_widens, pages_go_with_their_last_name,
-    references_change_no_word, runs_are_whole, units_leave_other_jobs,
-    waiters_go_on_when_a_fork_has_ended,
+    references_change_no_word, runs_are_whole, waiters_go_on_when_a_fork_has_ended,
 };
 use plain_model::start_bounds_hold;
 use plain_pages::page_bounds_hold;
@@ -32,7 +31,6 @@ fn the_laws_are_called(_rt: HostRuntime) -> Result<(), Fail> {
     waiters_go_on_when_a_fork_has_ended();
     killed_forks_take_their_pages();
     frozen_forks_run_when_resumed();
-    units_leave_other_jobs();
     Ok(())
 }
 
