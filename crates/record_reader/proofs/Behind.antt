@@ -1,9 +1,9 @@
 -- What a line at the front makes of the rest of a record.
 use Rattle.std.proofs.Common.{◌≡◌, ◌⊎◌, inl, inr, ℕ, ◌+◌, ◌<◌, ◌≤◌, List, ◌∷◌, ◌++◌, length, drop, refl, sym, ◌∙◌, ap, arith, append_assoc, length-append}
 use Rattle.std.specs.Prelude.{Option}
-use Rattle.script_lang.specs.Feeds.{AllLeft, EndsWithin, GoesBeyond, IsFed, Reads, StopsWithin}
+use Rattle.line_buffer.specs.Feeds.{AllLeft, EndsWithin, GoesBeyond, IsFed, Reads, StopsWithin}
 use Rattle.script_lang.proofs.Judging.{fed_more}
-use Rattle.script_lang.proofs.Reading.{beyond_line, feed_behind, reads_left}
+use Rattle.line_buffer.proofs.Reading.{beyond_line, feed_behind, reads_left}
 use Rattle.script_texts.specs.RecordLines.{RecordLine, said, said_all}
 use Rattle.record_reader.specs.Order.{GoesOnWith}
 use Rattle.record_reader.specs.Verdicts.{IsBadBehind, IsLongBehind, most_record_bytes}

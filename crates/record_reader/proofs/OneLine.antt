@@ -11,7 +11,7 @@ use Rattle.script_texts.specs.Texts.{field, name_text}
 use Rattle.script_lang.specs.Fields.{IsCut, Lacks}
 use Rattle.script_lang.proofs.CanonicalPlain.{decimal_without}
 use Rattle.script_lang.proofs.CanonicalSpells.{short, spells}
-use Rattle.script_lang.proofs.Splits.{one_split, no_split}
+use Rattle.line_buffer.proofs.Splits.{one_split, no_split}
 use Rattle.script_texts.specs.RecordLines.{RecordLine, version, run, counts, said}
 use Rattle.texts.proofs.RecordLines.{IsLine}
 use Rattle.texts.proofs.RecordApart.{lead, no_event, one_line, plain_of}

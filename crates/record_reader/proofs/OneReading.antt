@@ -5,7 +5,7 @@ use Rattle.std.proofs.lemmas.Grind.{flat_map-append}
 use Rattle.std.proofs.lemmas.List.{append-nil}
 use Rattle.script_texts.specs.Texts.{ended}
 use Rattle.script_texts.specs.RecordLines.{RecordLine, said, said_all}
-use Rattle.script_lang.proofs.Splits.{one_split, no_split}
+use Rattle.line_buffer.proofs.Splits.{one_split, no_split}
 use Rattle.texts.proofs.RecordApart.{first_line}
 use Rattle.record_reader.specs.Order.{FitsLine, MayFollow, AreInOrder, AreRecordLines, GoesOnWith, turns_on, turns_on_all}
 use Rattle.record_reader.specs.Verdicts.{BeginsWith, EndsAs, IsBadBehind, ReadsAs, Verdict, whole, bad, too_long, most_record_bytes}

@@ -5,7 +5,7 @@ use Rattle.std.proofs.lemmas.Grind.{flat_map-append}
 use Rattle.std.proofs.lemmas.List.{append-nil}
 use Rattle.script_texts.specs.Texts.{ended}
 use Rattle.script_texts.specs.RecordLines.{RecordLine, said, said_all}
-use Rattle.script_lang.specs.Feeds.{AllLeft}
+use Rattle.line_buffer.specs.Feeds.{AllLeft}
 use Rattle.record_reader.specs.Verdicts.{EndsAs, ReadsAs, Verdict}
 use Rattle.record_reader.specs.Reader.{Advances, StandsIn, TakesFront, pending}
 use Rattle.record_reader.specs.declared.reader.RecordReader.{RecordReader}

@@ -1,6 +1,6 @@
 -- A record that is read in pieces: what was taken of it and not yet given, and which lines were read.
 use Rattle.std.specs.Prelude.{◌≡◌, ℕ, ◌+◌, ◌-◌, ◌≤◌, List, [], ◌∷◌, ◌++◌, length, map, Option, None, Some}
-use Rattle.script_lang.specs.Feeds.{IsLeft, StopsWithin}
+use Rattle.line_buffer.specs.Feeds.{IsLeft, StopsWithin}
 use Rattle.script_texts.specs.Script.{most_turns}
 use Rattle.script_texts.specs.RecordLines.{RecordLine, version, run, counts, said, said_all}
 use Rattle.record_reader.specs.Order.{AreRecordLines, GoesOnWith, MayFollow, last_line, turns_on, turns_on_all}

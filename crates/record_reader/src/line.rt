@@ -7,8 +7,9 @@ ghost use Rattle.record_reader.specs.Order.{MayFollow, turns_on};
 ghost use Rattle.record_reader.specs.OneLine.{IsEventLine, IsLineOf, IsNoLine, told, told_last};
 
 use crate::number::number;
+use line_buffer::MOST_LINE;
 use machine_names::{ForkName, LAST_SERIAL, TERMINALS, Tty};
-use script_lang::{LineRoom, MOST_LINE, MOST_TURNS, Read, cut, read_line, write_line};
+use script_lang::{LineRoom, MOST_TURNS, Read, cut, read_line, write_line};
 use script_texts::{Event, Step};
 
 // The sizes that a drum may have.

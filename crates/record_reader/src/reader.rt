@@ -2,7 +2,7 @@
 ghost use Rattle.std.specs.Prelude.{◌≡◌, ◌≢◌, ◌⊎◌, ◌↔◌, ◌+◌, ◌<◌, ◌≤◌, ℕ, List, [], ◌∷◌, ◌++◌, length, drop, Some, IsTrue};
 ghost use Rattle.outside.specs.Faults.{Rose};
 ghost use Rattle.script_texts.specs.Script.{HasNoFeed};
-ghost use Rattle.script_lang.specs.Feeds.{AllLeft, IsFed, Reads, Spends, StopsWithin};
+ghost use Rattle.line_buffer.specs.Feeds.{AllLeft, IsFed, Reads, Spends, StopsWithin};
 ghost use Rattle.script_texts.specs.Script.{most_turns};
 ghost use Rattle.script_texts.specs.RecordLines.{RecordLine, said};
 ghost use Rattle.record_reader.specs.Order.{FitsLine, turns_on};
@@ -12,9 +12,9 @@ ghost use Rattle.record_reader.specs.Verdicts.{EndsAs, IsBadBehind, IsLongBehind
 
 use crate::line::{Said, may_follow, read, turns_of};
 use crate::passed::{MOST_RECORD_BYTES, Passed};
+use line_buffer::{Buffer, Found, MOST_LINE, Passed as LineEnd};
 use outside::Source;
-use script_lang::buffer::{Buffer, Found, Passed as LineEnd};
-use script_lang::{MOST_LINE, MOST_TURNS};
+use script_lang::MOST_TURNS;
 use script_texts::Step;
 
 /// What a record has next.

@@ -16,7 +16,7 @@ use Rattle.script_texts.specs.Texts.{escaped, field, line_of, octal, on_or_off}
 use Rattle.script_lang.specs.Fields.{Lacks}
 use Rattle.script_lang.proofs.CanonicalDigits.{decimal_digits, digits-octal}
 use Rattle.script_lang.proofs.Fronts.{digits_lack, file_lacks, name_lacks, octal_lacks}
-use Rattle.script_lang.proofs.Splits.{IsNot}
+use Rattle.line_buffer.proofs.Splits.{IsNot}
 
 -- a byte below the digits is none of them
 pub decimal_without : (c n : ℕ) → c < 48 → n < 2 ^ 64 → Lacks c (decimal n)

@@ -11,7 +11,7 @@ use Rattle.script_texts.specs.Script.{IsDigit, IsDecimal, IsOctal, IsTty}
 use Rattle.script_texts.specs.Texts.{field, on_or_off}
 use Rattle.script_lang.specs.Fields.{Begins, BeginsNot, IsBehind, IsCut, IsHead, Lacks}
 use Rattle.script_lang.proofs.Numbers.{decimal_value-most}
-use Rattle.script_lang.proofs.Splits.{IsNot, one_split, no_split}
+use Rattle.line_buffer.proofs.Splits.{IsNot, one_split, no_split}
 
 -- digits are no byte below them
 pub digits_lack : (c : ℕ) → c < 48 → (xs : List ℕ) → All IsDigit xs → Lacks c xs

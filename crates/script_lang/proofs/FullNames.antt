@@ -11,7 +11,7 @@ use Rattle.machine_names.specs.Bounds.{IsDirName, IsFileName, is_name_code}
 use Rattle.script_lang.specs.Fields.{AreParts}
 use Rattle.machine_names.specs.FileNames.{are_parts, before, behind, directory_before, extension_behind, file_named, full_name, is_cut_name, is_dir_name, is_file_name, raised, stands_in}
 use Rattle.script_lang.proofs.Fronts.{name_lacks}
-use Rattle.script_lang.proofs.Splits.{IsNot, one_split}
+use Rattle.line_buffer.proofs.Splits.{IsNot, one_split}
 
 -- a text is cut where a character stands first in it
 module _ (c : ℕ) where

@@ -5,12 +5,12 @@ use Rattle.std.proofs.lemmas.Grind.{flat_map-append}
 use Rattle.std.proofs.lemmas.List.{append-nil, take_at, drop_at}
 use Rattle.script_texts.specs.declared.event.Event.{Event}
 use Rattle.script_texts.specs.Script.{AreLines, Gives, GiveAll, HasNoFeed, IsBadLine, IsBadRest, IsBlank, IsLongRest, Spells, joined, most_bytes}
-use Rattle.script_lang.specs.Feeds.{AllLeft, EndsWithin, GoesBeyond, IsFed, Reads, StopsWithin}
+use Rattle.line_buffer.specs.Feeds.{AllLeft, EndsWithin, GoesBeyond, IsFed, Reads, StopsWithin}
 use Rattle.script_lang.specs.Lines.{Breaks, FrontIsBad, FrontIsLong, GivesFront, GivesLine, IsDone, IsFinal, IsReadBy, IsUndecided, Passes, Skips, Takes, given, lines_given, pending, turns_given}
 use Rattle.script_lang.specs.declared.lines.Line.{Line}
 use Rattle.script_lang.specs.declared.lines.Line.TheVariants.{One, Blank, Bad, Long, End, Fault}
 use Rattle.script_lang.specs.declared.lines.Lines.{Lines}
-use Rattle.script_lang.proofs.Reading.{beyond_line, feed_behind, reads_left, reads_none, reads_then}
+use Rattle.line_buffer.proofs.Reading.{beyond_line, feed_behind, reads_left, reads_none, reads_then}
 
 -- what is told behind bytes that have a line feed
 fed_told : (held : List ℕ) (n : ℕ) (fed : IsFed held n) (told : List ℕ) → held ++ told ≡ fed.line ++ 10 ∷ (fed.more ++ told)

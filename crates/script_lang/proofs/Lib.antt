@@ -2,7 +2,6 @@ pub mod FullNames
 pub mod Generated
 pub mod Moves
 pub mod Numbers
-pub mod Splits
 pub mod Fronts
 pub mod Sequences
 pub mod Characters
@@ -12,8 +11,6 @@ pub mod KeywordBytes
 pub mod Readings
 pub mod Spellings
 pub mod Choices
-pub mod Held
-pub mod Reading
 pub mod Judging
 pub mod Undecided
 pub mod OnePlace

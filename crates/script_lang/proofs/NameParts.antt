@@ -3,7 +3,7 @@ use Rattle.std.proofs.Common.{◌≡◌, ℕ, ◌≤◌, List, ◌∷◌, ◌++�
 use Rattle.machine_names.specs.Bounds.{IsDirName, IsFileName, IsNameCode}
 use Rattle.script_lang.specs.Fields.{AreParts, IsCut, Lacks}
 use Rattle.script_lang.proofs.Fronts.{name_lacks}
-use Rattle.script_lang.proofs.Splits.{one_split, no_split}
+use Rattle.line_buffer.proofs.Splits.{one_split, no_split}
 
 module _ (text : List ℕ) where
   module _ (rest : List ℕ) (opened : text ≡ 60 ∷ rest) where

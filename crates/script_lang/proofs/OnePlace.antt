@@ -5,7 +5,7 @@ use Rattle.std.proofs.lemmas.Grind.{flat_map-append}
 use Rattle.std.proofs.lemmas.List.{append-nil}
 use Rattle.script_texts.specs.declared.event.Event.{Event}
 use Rattle.script_texts.specs.Script.{BeginsWith, Gives, GiveAll, IsBadLine, IsBadRest, IsLongRest, IsScript, IsTooLong, StopsAt, joined, most_bytes, most_turns, turns_in, turns_of}
-use Rattle.script_lang.proofs.Splits.{one_split, no_split}
+use Rattle.line_buffer.proofs.Splits.{one_split, no_split}
 use Rattle.script_lang.proofs.KeywordBytes.{blank_spells_none}
 use Rattle.script_lang.proofs.Spellings.{one_event}
 

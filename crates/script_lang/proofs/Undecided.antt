@@ -7,11 +7,11 @@ use Rattle.std.proofs.lemmas.Bool.{cases_lt, le-leb, leb-true}
 use Rattle.std.proofs.lemmas.List.Elements.{All-take}
 use Rattle.script_texts.specs.declared.event.Event.{Event}
 use Rattle.script_texts.specs.Script.{Gives, GiveAll, HasNoFeed, IsBlank, joined, most_bytes}
-use Rattle.script_lang.specs.Feeds.{IsFed, Reads}
+use Rattle.line_buffer.specs.Feeds.{IsFed, Reads}
 use Rattle.script_lang.specs.Lines.{Advances, GivesFront, IsPassedOver, IsUndecided, Skips, given, lines_given, pending}
 use Rattle.script_lang.specs.declared.lines.Lines.{Lines}
 use Rattle.script_lang.proofs.Judging.{fed_line, gives_both, gives_line, gives_none, gives_nothing, line_front, lines_both, lines_none, lines_one}
-use Rattle.script_lang.proofs.Splits.{IsNot, no_split, one_split}
+use Rattle.line_buffer.proofs.Splits.{IsNot, no_split, one_split}
 
 -- a line that gives no event
 blank_line : (line : List ℕ) (mine : List Event) → mine ≡ [] → Gives line mine → IsBlank line

@@ -4,11 +4,11 @@ use Rattle.std.specs.Prelude.{Option, Some}
 use Rattle.std.proofs.lemmas.List.{append-nil}
 use Rattle.script_texts.specs.declared.event.Event.{Event}
 use Rattle.script_texts.specs.Script.{AreLines, IsBadRest, IsLongRest, IsReadTo, IsScript, IsTooLong, StopsAt, most_turns, turns_in}
-use Rattle.script_lang.specs.Feeds.{AllLeft, IsLeft, Reads}
+use Rattle.line_buffer.specs.Feeds.{AllLeft, IsLeft, Reads}
 use Rattle.script_lang.specs.Lines.{Breaks, IsDone, IsUndecided, Passes, Takes, given, lines_given, pending, turns_given}
 use Rattle.script_lang.specs.declared.lines.Lines.{Lines}
 use Rattle.script_lang.proofs.Judging.{lines_both}
-use Rattle.script_lang.proofs.Reading.{reads_left}
+use Rattle.line_buffer.proofs.Reading.{reads_left}
 
 -- lines that give events, and then lines that give none
 lines_then_none : (front back : List ℕ) (m n : ℕ) (es : List Event) → AreLines front m es → AreLines back n [] → AreLines (front ++ back) (m + n) es

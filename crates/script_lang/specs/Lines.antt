@@ -2,12 +2,12 @@
 use Rattle.std.specs.Prelude.{◌≡◌, ℕ, ◌+◌, ◌<◌, ◌≤◌, List, [], ◌∷◌, ◌++◌, length, Option}
 use Rattle.script_texts.specs.declared.event.Event.{Event}
 use Rattle.script_texts.specs.Script.{AreLines, Gives, HasNoFeed, IsBadRest, IsBlank, IsLongRest, most_bytes, most_turns}
-use Rattle.script_lang.specs.Feeds.{IsLeft}
+use Rattle.line_buffer.specs.Feeds.{IsLeft}
 use Rattle.script_lang.specs.declared.lines.Lines.{Lines}
 use Rattle.script_lang.specs.declared.lines.Next.{Next}
 use Rattle.script_lang.specs.declared.lines.Next.TheVariants.{ReadFault}
 use Rattle.script_lang.specs.declared.lines.Reading.TheVariants.{Open}
-use Rattle.script_lang.specs.declared.reached.TheConstants.{MOST_LINE}
+use Rattle.line_buffer.specs.declared.buffer.TheConstants.{MOST_LINE}
 use Rattle.script_lang.specs.declared.lines.Line.{Line}
 use Rattle.script_lang.specs.declared.lines.Line.TheVariants.{One, Blank, Bad, Long, End, Fault}
 

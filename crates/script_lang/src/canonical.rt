@@ -10,8 +10,8 @@ ghost use Rattle.script_lang.specs.Canonical.{Adds};
 
 use crate::digits::{DECIMAL_DIGITS, decimal, escaped, octal};
 use crate::names::{MOST_FILE, MOST_USER};
-use crate::reached::MOST_LINE;
 use crate::rows::MOST_WORDS;
+use line_buffer::MOST_LINE;
 use machine_names::{DirName, FileName, Tty, TypedText};
 use script_texts::{Event, WordRow};
 use word36::{WORD_DIGITS, Word};

@@ -6,7 +6,7 @@ ghost use Rattle.script_texts.specs.declared.event.Event.{Event as AnEvent};
 ghost use Rattle.script_lang.specs.Grammar.{SpellsNone};
 
 use crate::keywords::event;
-use crate::reached::MOST_LINE;
+use line_buffer::MOST_LINE;
 use script_texts::Event;
 
 /// What a line without its line feed is.

@@ -5,7 +5,6 @@
 
 mod big;
 mod big_laws;
-pub mod buffer;
 mod canonical;
 pub mod digits;
 mod draws;
@@ -30,5 +29,5 @@ pub use grammar::{Read, one_spelling, read_line, script_fits};
 pub use lines::{Lines, Next};
 pub use named::{full_names, read_name};
 pub use names::MOST_FILE;
-pub use reached::{MOST_BYTES, MOST_LINE, MOST_TURNS};
+pub use reached::{MOST_BYTES, MOST_TURNS};
 pub use verdicts::one_verdict;

@@ -4,11 +4,11 @@ ghost use Rattle.outside.specs.Faults.{Rose};
 ghost use Rattle.script_texts.specs.Limits.{FitsEvent};
 ghost use Rattle.script_texts.specs.Script.{HasNoFeed, IsBadRest, IsLongRest, most_bytes, most_turns, turns_of as turns_asked};
 ghost use Rattle.script_texts.specs.declared.event.Event.{Event as AnEvent};
-ghost use Rattle.script_lang.specs.Feeds.{AllLeft, IsFed, Reads, Spends};
+ghost use Rattle.line_buffer.specs.Feeds.{AllLeft, IsFed, Reads, Spends};
 
-use crate::buffer::{Buffer, Found, Passed, line_end};
 use crate::grammar::{Read, is_blank, read_line};
-use crate::reached::{MOST_BYTES, MOST_LINE, MOST_TURNS, Reached};
+use crate::reached::{MOST_BYTES, MOST_TURNS, Reached};
+use line_buffer::{Buffer, Found, MOST_LINE, Passed, line_end};
 use outside::Source;
 use script_texts::Event;
 

@@ -5,9 +5,6 @@ ghost use Rattle.script_texts.specs.Script.{most_bytes, most_turns};
 /// How many bytes a script may have.
 pub const MOST_BYTES: u64 = 16_777_216;
 
-/// How many bytes a line has at most, without its line feed.
-pub const MOST_LINE: usize = 256;
-
 /// How many turns the RUN lines of a script may ask for in all.
 pub const MOST_TURNS: u64 = 1_099_511_627_776;
 

@@ -4,7 +4,6 @@
 #![tactic(auto)]
 
 mod carrying;
-mod counting;
 mod deposits;
 mod ends;
 mod filling;

@@ -11,7 +11,6 @@ ghost use Rattle.file_bytes.specs.Planning.{CanTurn};
 ghost use Rattle.string_io.specs.Planning.{FitsPlan, Plans};
 ghost use Rattle.string_io.specs.Turning.{StringStops};
 
-use crate::counting::{behind_byte, ends_before};
 use crate::ends::{pointer_in, reading_plan};
 use crate::plan::Plan;
 use call_turns::{behind, returning, with_ac};
@@ -20,6 +19,7 @@ use machine_names::ForkName;
 use page_contracts::Pages;
 use plain_model::call::{ByteChange, End};
 use plain_units::Regs;
+use string_counts::{behind_byte, ends_before};
 use text_pointers::byte_at;
 use word36::Word;
 

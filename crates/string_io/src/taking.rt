@@ -14,7 +14,6 @@ ghost use Rattle.file_bytes.specs.Planning.{CanTurn};
 ghost use Rattle.string_io.specs.Planning.{FitsPlan, Plans};
 ghost use Rattle.string_io.specs.Turning.{StringStops};
 
-use crate::counting::behind_byte;
 use crate::deposits::{NextByte, deposits};
 use crate::ends::{at_once, pointer_in};
 use crate::plan::Plan;
@@ -31,6 +30,7 @@ use plain_model::call::{ByteChange, End, NOT_OPEN, TERMINAL_INPUT, TERMINAL_OUTP
 use plain_units::Regs;
 use plain_units::channel::END_OF_FILE;
 use script_texts::WaitOn;
+use string_counts::behind_byte;
 use tty_lines::Line;
 use word36::Word;
 

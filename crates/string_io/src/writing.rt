@@ -15,7 +15,6 @@ ghost use Rattle.string_io.specs.Planning.{FitsPlan, Plans};
 ghost use Rattle.string_io.specs.Turning.{StringStops};
 ghost use Rattle.string_io.specs.Writing.{writes_to};
 
-use crate::counting::{behind_byte, ends_before};
 use crate::ends::{at_once, pointer_in, reading_plan};
 use crate::filling::fills;
 use crate::plan::Plan;
@@ -30,6 +29,7 @@ use page_files::{most_bytes, place};
 use plain_files::Jfn;
 use plain_model::call::{BAD_POSITION, ByteChange, End, NOT_OPEN, TERMINAL_INPUT, TERMINAL_OUTPUT};
 use plain_units::Regs;
+use string_counts::{behind_byte, ends_before};
 use text_pointers::{PointedByte, byte_at};
 use word36::Word;
 

@@ -1,7 +1,7 @@
 // The text of a program as it was read, kept so that a bad line of it can be shown.
 use crate::watch::{BadLine, TextKind, Wrong, unended};
+use line_buffer::MOST_LINE;
 use outside::{Failed, Source};
-use script_lang::MOST_LINE;
 use std::alloc::Global;
 
 // What was read, piece by piece. Where there was no memory for a piece, nothing is kept any more.

@@ -1,6 +1,7 @@
 // The lines of a script that were read last, kept so that a bad one can be named.
+use line_buffer::MOST_LINE;
 use outside::{Failed, Source};
-use script_lang::{MOST_LINE, MOST_TURNS, Read, read_line};
+use script_lang::{MOST_TURNS, Read, read_line};
 use script_texts::Event;
 
 /// How many bytes are kept: what was read last, and before it the line that had no end yet.

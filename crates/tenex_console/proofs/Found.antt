@@ -3,7 +3,7 @@ use Rattle.std.proofs.Common.{◌≡◌, ℕ, ◌≤◌, List, [], ◌++◌, Opt
 use Rattle.std.proofs.lemmas.List.{append-nil}
 use Rattle.script_texts.specs.declared.event.Event.{Event}
 use Rattle.script_texts.specs.Script.{BeginsWith, IsTooLong, StopsAt, most_turns, turns_in}
-use Rattle.script_lang.specs.Feeds.{AllLeft, Reads, Spends}
+use Rattle.line_buffer.specs.Feeds.{AllLeft, Reads, Spends}
 use Rattle.script_lang.specs.Lines.{Breaks, IsDone, IsUndecided, Passes, Takes, given, lines_given, pending, turns_given}
 use Rattle.script_lang.specs.declared.lines.Lines.{Lines}
 use Rattle.script_lang.proofs.Whole.{script_of_whole, stop_of_whole, long_of_whole, taken_of_whole, read_of_whole}

@@ -12,7 +12,7 @@ use Rattle.script_texts.specs.Script.{HasNoFeed}
 use Rattle.script_texts.specs.Texts.{field, line_of, record_text}
 use Rattle.script_lang.proofs.CanonicalSpells.{same_event}
 use Rattle.script_lang.proofs.CanonicalPlain.{decimal_without, plain_line, plain_then, plain_word}
-use Rattle.script_lang.proofs.Splits.{one_split}
+use Rattle.line_buffer.proofs.Splits.{one_split}
 use Rattle.script_texts.specs.RecordLines.{RecordLine, version, run, counts, said, said_all, entries_told}
 use Rattle.texts.proofs.RecordLines.{FitsRun, IsLine, record_lines, record_texts, record_steps, record_fits, record_ends}
 

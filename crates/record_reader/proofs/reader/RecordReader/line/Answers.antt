@@ -1,6 +1,6 @@
 use Rattle.std.proofs.Common.{◌≡◌, [], ◌++◌, sym, subst}
-use Rattle.script_lang.specs.Feeds.{StopsWithin}
-use Rattle.script_lang.proofs.Reading.{all_behind, all_read, reads_then, reads_weaker}
+use Rattle.line_buffer.specs.Feeds.{StopsWithin}
+use Rattle.line_buffer.proofs.Reading.{all_behind, all_read, reads_then, reads_weaker}
 use Rattle.record_reader.specs.Verdicts.{IsBadBehind}
 use Rattle.record_reader.specs.OneLine.{told}
 use Rattle.record_reader.specs.Verdicts.{IsLongBehind}

@@ -3,7 +3,7 @@ use Rattle.script_texts.specs.RecordLines.{said_all}
 use Rattle.record_reader.specs.Verdicts.{IsBadBehind, most_record_bytes}
 use Rattle.record_reader.specs.Verdicts.{IsLongBehind}
 use Rattle.record_reader.specs.Reader.{pending}
-use Rattle.script_lang.proofs.Reading.{all_read, all_spent}
+use Rattle.line_buffer.proofs.Reading.{all_read, all_spent}
 use Rattle.record_reader.proofs.Behind.{ends_bad, goes_long, stops_bad}
 use Rattle.record_reader.proofs.OneLine.{short_line}
 use Rattle.record_reader.proofs.reader.RecordReader.long_line.Goals as goal

@@ -1,5 +1,5 @@
 use Rattle.std.proofs.Common.{◌≡◌, [], ◌∷◌, ◌++◌, refl, subst}
-use Rattle.script_lang.specs.Feeds.{AllLeft}
+use Rattle.line_buffer.specs.Feeds.{AllLeft}
 use Rattle.record_reader.specs.OneLine.{told}
 use Rattle.record_reader.specs.Verdicts.{EndsAs, whole}
 use Rattle.record_reader.specs.Reader.{StandsIn, pending}

@@ -1,10 +1,10 @@
 use Rattle.std.proofs.Common.{◌≡◌, ◌+◌, [], ◌∷◌, arith, subst, sym, ◌∙◌, ap, refl}
 use Rattle.script_texts.specs.Script.{turns_of}
-use Rattle.script_lang.specs.Feeds.{AllLeft}
+use Rattle.line_buffer.specs.Feeds.{AllLeft}
 use Rattle.script_lang.specs.Lines.{Breaks, GivesFront, IsUndecided, Takes, given, lines_given, pending, turns_given}
 use Rattle.script_lang.specs.declared.lines.Line.TheVariants.{One}
 use Rattle.script_lang.proofs.Judging.{breaks_behind, done_behind, gives_both, gives_nothing, passes_behind, reads_behind, takes_read, undecided_behind}
-use Rattle.script_lang.proofs.Reading.{reads_none, spends_behind}
+use Rattle.line_buffer.proofs.Reading.{reads_none, spends_behind}
 use Rattle.script_lang.proofs.lines.Lines.advance.Goals as goal
 
 pub loop-event-init : goal.loop-event-init

@@ -1,6 +1,6 @@
 use Rattle.std.proofs.Common.{◌≡◌, ◌≤◌, ◌-◌, []}
 use Rattle.script_texts.specs.Script.{most_bytes}
-use Rattle.script_lang.specs.Feeds.{Reads}
+use Rattle.line_buffer.specs.Feeds.{Reads}
 use Rattle.script_lang.specs.Lines.{GivesFront, IsUndecided, given, pending, turns_given}
 use Rattle.script_lang.proofs.lines.Lines.advance.Given as goal
 

@@ -5,7 +5,7 @@ use Rattle.std.proofs.lemmas.List.{nil_from_length}
 use Rattle.script_texts.specs.Script.{IsBadRest, IsLongRest}
 use Rattle.script_lang.specs.Lines.{Breaks, IsDone, IsReadBy, IsUndecided, Passes, given, lines_given, turns_given}
 use Rattle.script_lang.proofs.Judging.{breaks_now, done_now, passes_now, read_by_final, read_by_line, stops_bad, stops_undecided}
-use Rattle.script_lang.proofs.Reading.{all_behind, all_read, all_spent, reads_then, reads_weaker}
+use Rattle.line_buffer.proofs.Reading.{all_behind, all_read, all_spent, reads_then, reads_weaker}
 use Rattle.script_lang.proofs.lines.Lines.line.Goals as goal
 
 pub returns-in-Line-clause-reads : goal.returns-in-Line-clause-reads

@@ -2,7 +2,7 @@ use Rattle.std.proofs.Common.{◌⊎◌, inl, inr, ◌<◌, length, subst, sym, 
 use Rattle.script_texts.specs.Script.{IsBadRest, IsLongRest}
 use Rattle.script_lang.specs.Lines.{IsUndecided, given, pending, turns_given}
 use Rattle.script_lang.proofs.Judging.{ends_bad, goes_long, stops_bad, stops_undecided}
-use Rattle.script_lang.proofs.Reading.{all_read, all_spent, reads_weaker}
+use Rattle.line_buffer.proofs.Reading.{all_read, all_spent, reads_weaker}
 use Rattle.script_lang.proofs.lines.Lines.long_line.Goals as goal
 
 pub returns-in-Feed-clause-reads : goal.returns-in-Feed-clause-reads

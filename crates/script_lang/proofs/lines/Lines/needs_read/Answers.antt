@@ -1,7 +1,7 @@
 use Rattle.std.proofs.Common.{◌↔◌, IsTrue, length, refl, subst, sym}
 use Rattle.std.proofs.Math.Dec.{leb}
 use Rattle.script_texts.specs.Script.{HasNoFeed}
-use Rattle.script_lang.specs.Feeds.{IsFed}
+use Rattle.line_buffer.specs.Feeds.{IsFed}
 use Rattle.script_lang.specs.Lines.{IsUndecided, given, pending}
 use Rattle.script_lang.proofs.Undecided.{plain_decides, skips_line, skips_none, undecided_passes}
 use Rattle.script_lang.proofs.lines.Lines.needs_read.Goals as goal

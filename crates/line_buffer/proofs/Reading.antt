@@ -5,9 +5,9 @@ use Rattle.std.proofs.lemmas.List.{append-nil, take-append-le, take-append-drop,
 use Rattle.std.proofs.lemmas.List.Elements.{All-head, All-tail, All-append, All-take}
 use Rattle.outside.specs.Told.{Loses}
 use Rattle.script_texts.specs.Script.{HasNoFeed}
-use Rattle.script_lang.proofs.Splits.{IsNot}
-use Rattle.script_lang.specs.Feeds.{AllLeft, EndsWithin, Fills, GoesBeyond, IsFed, IsLeft, Reads, Spends, StopsWithin}
-use Rattle.script_lang.specs.declared.buffer.TheConstants.{ROOM}
+use Rattle.line_buffer.proofs.Splits.{IsNot}
+use Rattle.line_buffer.specs.Feeds.{AllLeft, EndsWithin, Fills, GoesBeyond, IsFed, IsLeft, Reads, Spends, StopsWithin}
+use Rattle.line_buffer.specs.declared.buffer.TheConstants.{ROOM}
 
 -- a line that ends in bytes ends behind those that have no line feed
 pub feed_behind : (front rest line more : List ℕ) → HasNoFeed front → front ++ rest ≡ line ++ 10 ∷ more → length front ≤ length line

@@ -1,6 +1,6 @@
 use Rattle.std.proofs.Common.{◌∙◌, ◌-◌, ◌≤◌, ◌++◌, ap, take, length, arith, length-take-le, length-append}
-use Rattle.script_lang.proofs.Held.{part, part_filled, length-part}
-use Rattle.script_lang.proofs.buffer.Buffer.fill.Goals as goal
+use Rattle.line_buffer.proofs.Held.{part, part_filled, length-part}
+use Rattle.line_buffer.proofs.buffer.Buffer.fill.Goals as goal
 
 pub returns-clause-bytes : goal.returns-clause-bytes
 returns-clause-bytes g c =

@@ -8,7 +8,7 @@ use Rattle.std.proofs.lemmas.List.Elements.{All-from_get_or}
 use Rattle.std.proofs.Math.Seq.{take-append-add}
 use Rattle.memchr.specs.Find.{IsFirstByte, is_byte}
 use Rattle.script_texts.specs.Script.{HasNoFeed}
-use Rattle.script_lang.specs.Feeds.{IsFed}
+use Rattle.line_buffer.specs.Feeds.{IsFed}
 use borrow.Rule.Slice.PartMut.{put_mid}
 
 -- the part of a list from one place up to another

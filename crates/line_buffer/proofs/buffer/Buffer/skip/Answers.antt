@@ -1,6 +1,6 @@
 use Rattle.std.proofs.Common.{◌∙◌, ◌≡◌, ◌-◌, ap, drop, length, arith, sym}
-use Rattle.script_lang.proofs.Held.{part_skipped, length-part}
-use Rattle.script_lang.proofs.buffer.Buffer.skip.Goals as goal
+use Rattle.line_buffer.proofs.Held.{part_skipped, length-part}
+use Rattle.line_buffer.proofs.buffer.Buffer.skip.Goals as goal
 
 pub returns : goal.returns
 returns c =

@@ -3,12 +3,14 @@ ghost use Rattle.std.specs.Prelude.{◌≡◌, ◌^◌, ◌<◌, ◌≤◌, ◌�
 ghost use Rattle.outside.specs.Faults.{Rose};
 ghost use Rattle.outside.specs.Told.{EndsOnly, Stays};
 ghost use Rattle.script_texts.specs.Script.{HasNoFeed};
-ghost use Rattle.script_lang.specs.Feeds.{EndsSo, Fills, IsFed, Reads, Spends, StopsWithin};
+ghost use Rattle.line_buffer.specs.Feeds.{EndsSo, Fills, IsFed, Reads, Spends, StopsWithin};
 
-use crate::reached::MOST_LINE;
 use memchr::memchr;
 use outside::{Failed, Source};
 use std::marker::Model;
+
+/// How many bytes a line has at most, without its line feed.
+pub const MOST_LINE: usize = 256;
 
 // How many bytes are held at most.
 const ROOM: usize = 4096;
@@ -23,7 +25,7 @@ pub struct Buffer {
 
 impl Model for Buffer {
     ghost use Rattle.std.specs.Prelude.{List, ℕ, ◌≡◌, ◌≤◌, ◌-◌, length, take, drop};
-    ghost use Rattle.script_lang.specs.declared.buffer.TheConstants.{ROOM};
+    ghost use Rattle.line_buffer.specs.declared.buffer.TheConstants.{ROOM};
 
     ghost Value = { List ℕ };
 
@@ -168,7 +170,7 @@ impl Buffer {
 }
 
 /// How many bytes stand before the first line feed. None exactly where there is none.
-pub(crate) fn line_end(bytes: &[u8]) -> Option<usize>
+pub fn line_end(bytes: &[u8]) -> Option<usize>
     ensures { MatchOption result (HasNoFeed bytes.now) (IsFed bytes.now) }
 {
     memchr(b'\n', bytes)

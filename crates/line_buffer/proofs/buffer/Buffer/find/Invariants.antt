@@ -1,6 +1,6 @@
 use Rattle.std.proofs.Common.{◌≡◌, ◌≤◌, ◌-◌, length}
-use Rattle.script_lang.specs.Feeds.{Reads, StopsWithin}
-use Rattle.script_lang.proofs.buffer.Buffer.find.Given as goal
+use Rattle.line_buffer.specs.Feeds.{Reads, StopsWithin}
+use Rattle.line_buffer.proofs.buffer.Buffer.find.Given as goal
 
 abbrev pub invariant-loop-n : goal.invariant-loop-n
 invariant-loop-n g l = record {

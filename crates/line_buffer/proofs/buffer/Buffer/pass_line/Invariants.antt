@@ -1,7 +1,7 @@
 use Rattle.std.proofs.Common.{◌≡◌, ◌+◌, ◌-◌, ◌≤◌, length}
-use Rattle.script_lang.specs.Feeds.{Reads, StopsWithin}
-use Rattle.script_lang.proofs.Reading.{IsPlain}
-use Rattle.script_lang.proofs.buffer.Buffer.pass_line.Given as goal
+use Rattle.line_buffer.specs.Feeds.{Reads, StopsWithin}
+use Rattle.line_buffer.proofs.Reading.{IsPlain}
+use Rattle.line_buffer.proofs.buffer.Buffer.pass_line.Given as goal
 
 abbrev pub invariant-loop-count : goal.invariant-loop-count
 invariant-loop-count g l = record {

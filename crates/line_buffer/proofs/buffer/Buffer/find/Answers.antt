@@ -1,8 +1,8 @@
 use Rattle.std.proofs.Common.{ap, arith, length, subst, ◌∙◌}
 use Rattle.script_texts.specs.Script.{HasNoFeed}
-use Rattle.script_lang.specs.Feeds.{StopsWithin}
-use Rattle.script_lang.proofs.Reading.{reads_filled}
-use Rattle.script_lang.proofs.buffer.Buffer.find.Goals as goal
+use Rattle.line_buffer.specs.Feeds.{StopsWithin}
+use Rattle.line_buffer.proofs.Reading.{reads_filled}
+use Rattle.line_buffer.proofs.buffer.Buffer.find.Goals as goal
 
 pub loop-n-preserved : goal.loop-n-preserved
 loop-n-preserved g c =

@@ -2,9 +2,9 @@
 use Rattle.std.specs.Prelude.{◌≡◌, ◌⊎◌, ℕ, ◌<◌, ◌≤◌, List, [], ◌∷◌, ◌++◌, length, take, Option, Some}
 use Rattle.outside.specs.Told.{Loses}
 use Rattle.script_texts.specs.Script.{HasNoFeed}
-use Rattle.script_lang.specs.declared.buffer.Passed.{Passed}
-use Rattle.script_lang.specs.declared.buffer.Passed.TheVariants.{Feed, Last, Over, Fault}
-use Rattle.script_lang.specs.declared.buffer.TheConstants.{ROOM}
+use Rattle.line_buffer.specs.declared.buffer.Passed.{Passed}
+use Rattle.line_buffer.specs.declared.buffer.Passed.TheVariants.{Feed, Last, Over, Fault}
+use Rattle.line_buffer.specs.declared.buffer.TheConstants.{ROOM}
 
 -- the first line feed stands behind so many bytes
 pub record IsFed (bytes : List ℕ) (n : ℕ) : Type 0 where

@@ -1,8 +1,8 @@
 use Rattle.std.proofs.Common.{◌≡◌, ◌+◌, arith, length, take, length-take-le, ◌∙◌}
-use Rattle.script_lang.specs.Feeds.{EndsWithin, GoesBeyond}
-use Rattle.script_lang.proofs.Held.{fed_inside}
-use Rattle.script_lang.proofs.Reading.{IsPlain, passed_more, plain_fed, plain_fed_beyond, plain_more}
-use Rattle.script_lang.proofs.buffer.Buffer.pass_line.Goals as goal
+use Rattle.line_buffer.specs.Feeds.{EndsWithin, GoesBeyond}
+use Rattle.line_buffer.proofs.Held.{fed_inside}
+use Rattle.line_buffer.proofs.Reading.{IsPlain, passed_more, plain_fed, plain_fed_beyond, plain_more}
+use Rattle.line_buffer.proofs.buffer.Buffer.pass_line.Goals as goal
 
 pub overflow_add-count : goal.overflow_add-count
 overflow_add-count g c =
