@@ -11,15 +11,14 @@ ghost use Rattle.pmap_calls.specs.Asking.{IsPlaceIn, asked, place_by};
 ghost use Rattle.file_tables.specs.Keys.{key_of};
 ghost use Rattle.pmap_calls.specs.Stages.{IsMapChange, IsStage, whole};
 
-use crate::access::access_in;
 use crate::naming::{PagePlace, place_named, slot_named};
-use crate::paging::{is_counted, pages_left};
 use crate::pmap::one_page;
 use crate::stage::Stage;
 use call_turns::{Ask, Turn, accumulator, returning};
 use file_tables::FileTables;
 use fork_tree::Tree;
 use machine_names::ForkName;
+use map_words::{access_in, is_counted, pages_left};
 use plain_model::call::{End, MapChange};
 use plain_units::Regs;
 

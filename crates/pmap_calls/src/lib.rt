@@ -3,12 +3,10 @@
 //! Stands on `call_turns` for turns, on `fork_tree` for handles, on `file_tables` for JFNs, on `plain_model` for the definitions, and on `page_contracts` for the pages.
 #![tactic(auto)]
 
-mod access;
 mod calls;
 mod laws;
 mod mapping;
 mod naming;
-mod paging;
 mod pmap;
 mod stage;
 mod table;

@@ -1,5 +1,5 @@
 // One place mapped into another, or without its page.
-ghost use Rattle.std.specs.Prelude.{◌≡◌, ◌<◌, ◌&&◌, ◌||◌, not, None};
+ghost use Rattle.std.specs.Prelude.{◌≡◌, ◌<◌, None};
 ghost use Rattle.machine_names.specs.declared.names.ForkName.{ForkName as AForkName};
 ghost use Rattle.machine_names.specs.declared.names.TheConstants.{FILE_PAGES, SPACE_PAGES};
 ghost use Rattle.plain_files.specs.Directory.{Files};
@@ -15,13 +15,12 @@ ghost use Rattle.pmap_calls.specs.Asking.{IsPlaceIn, asked, place_by};
 ghost use Rattle.pmap_calls.specs.Paging.{CanGoOn, drop_end as drop_end_of, map_end as map_end_of, put_end as put_end_of};
 ghost use Rattle.pmap_calls.specs.Stages.{IsMapChange, IsStage, whole};
 
-use crate::access::access_in;
 use crate::naming::PagePlace;
-use crate::paging::behind_page;
 use crate::stage::Stage;
 use call_turns::{Ask, Turn, accumulator};
 use file_tables::FileTables;
 use machine_names::{Access, Slot};
+use map_words::{access_in, behind_page, needs_no_more};
 use plain_files::Jfn;
 use plain_model::call::{End, FILE_TO_FILE, MapChange, NOT_OPEN};
 use plain_units::Regs;
@@ -58,16 +57,6 @@ fn is_written(jfn: Jfn) -> bool
         Some(mode) => mode.w,
         None => false,
     }
-}
-
-// Whether an access needs no more than to read and to write where those are allowed: a page that is to be copied first isn't written itself.
-fn needs_no_more(access: Access, reads: bool, writes: bool) -> bool
-    ensures { result ≡ ((not (access.r || access.x || access.c) || reads) && (not (access.w && not access.c) || writes)) }
-{
-    if (access.r || access.x || access.c) && !reads {
-        return false;
-    }
-    !access.w || access.c || writes
 }
 
 // Whether the file of a JFN is open for an access to its pages.

@@ -11,12 +11,12 @@ ghost use Rattle.pmap_calls.specs.Stages.{IsMapChange, IsStage, whole};
 
 use crate::mapping::{mapping_into, unmapping};
 use crate::naming::{PagePlace, names_page, place_named, place_of};
-use crate::paging::NO_SOURCE;
 use crate::stage::Stage;
 use call_turns::Turn;
 use file_tables::FileTables;
 use fork_tree::Tree;
 use machine_names::ForkName;
+use map_words::NO_SOURCE;
 use plain_model::call::{BAD_PAGE, End, MapChange};
 use plain_units::Regs;
 

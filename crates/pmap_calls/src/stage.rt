@@ -9,10 +9,10 @@ ghost use Rattle.call_turns.specs.declared.turn.Grant.{Grant as AGrant};
 ghost use Rattle.call_turns.specs.Turns.{IsRegs, FitsEnd, FitsTurn};
 ghost use Rattle.pmap_calls.specs.Stages.{IsMapChange, IsStage, filled as filled_by, if_there as if_page_there};
 
-use crate::access::{access_told, file_access};
 use call_turns::{Ask, Rest, Told, Turn, WhenFull, returning, with_ac};
 use fork_tree::Tree;
 use machine_names::{Access, FileNo, ForkName, PageName, Slot};
+use map_words::{access_told, file_access};
 use plain_model::call::{End, FORK_SELF, MapChange, NO_PAGE};
 use plain_pages::MapEntry;
 use plain_units::Regs;

@@ -1,5 +1,5 @@
 // Access in a word (JSYS Manual, RPACS).
-ghost use Rattle.std.specs.Prelude.{◌≡◌, ◌≤◌, ◌+◌, ◌/◌, ◌%◌, ◌==◌, if◌then◌else◌};
+ghost use Rattle.std.specs.Prelude.{◌≡◌, ◌≤◌, ◌+◌, ◌/◌, ◌%◌, ◌==◌, ◌&&◌, ◌||◌, not, if◌then◌else◌};
 ghost use Rattle.plain_model.specs.AccessWords.{access_in as access_in_of, access_told as access_told_of, access_word, entry_word};
 ghost use Rattle.plain_model.specs.MapCalls.{file_access as file_access_of};
 
@@ -52,6 +52,16 @@ pub fn access_in(word: Word) -> Access
         x: has_bit(word, EXECUTE),
         c: has_bit(word, COPY),
     }
+}
+
+/// Whether an access needs no more than to read and to write where those are allowed: a page that is to be copied first isn't written itself.
+pub fn needs_no_more(access: Access, reads: bool, writes: bool) -> bool
+    ensures { result ≡ ((not (access.r || access.x || access.c) || reads) && (not (access.w && not access.c) || writes)) }
+{
+    if (access.r || access.x || access.c) && !reads {
+        return false;
+    }
+    !access.w || access.c || writes
 }
 
 // The bits of an access.
