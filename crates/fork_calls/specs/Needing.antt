@@ -16,7 +16,7 @@ use Rattle.plain_units.specs.Steps.{Steps, Ending, begun, stopped, need as needs
 use Rattle.call_turns.specs.Needing.{NoTouches, TurnNeeds as NeedsOf}
 use Rattle.job_forks.specs.Killing.{IsKilledAway}
 use Rattle.ka10_unit.specs.Gathers.{Framed}
-use Rattle.ka10_unit.specs.Taking.{most_frames, run_over}
+use Rattle.ka10_unit.specs.Taking.{most_frames, read_frames, run_over}
 
 -- a change needs what a kill does
 abbrev pub ChangeNeeds : Scene → ForkMap → ForkChange → Need → Type 0
@@ -40,6 +40,10 @@ WordsNeed scene p f regs steps later n = run_over f (record { pages = p; scene =
 abbrev pub TurnNeeds : Framed → ForkMap → Turn ⊥ ForkChange → Need → Type 0
 TurnNeeds p forks t n = NeedsOf no_files WordsNeed NoTouches (ForkEndNeeds forks) p.scene p.pages t n
 
--- how many frames a call may want: those of its references, and one for the map of a new fork
+-- how many frames the making of a fork may want: those of the words that it reads, and one for the map
+abbrev pub making_frames : ℕ
+making_frames = read_frames + 1
+
+-- and any call: one that stores words in its caller's pages wants most
 abbrev pub call_frames : ℕ
-call_frames = most_frames + 1
+call_frames = most_frames

@@ -13,12 +13,12 @@ ghost use Rattle.ka10_unit.specs.Carrying.{Grows};
 ghost use Rattle.page_contracts.specs.declared.answers.Need.{Need as ANeed};
 ghost use Rattle.call_turns.specs.Answers.{AnswerNeeds, IsDone, HasRegs};
 ghost use Rattle.ka10_unit.specs.Gathers.{Serves, framed};
-ghost use Rattle.ka10_unit.specs.Taking.{IsTrap, StopNeeds, most_frames};
+ghost use Rattle.ka10_unit.specs.Taking.{IsTrap, StopNeeds, read_frames};
 ghost use Rattle.fork_tree.specs.Making.{AddsLast, slot_for};
 ghost use Rattle.job_forks.specs.Asking.{asked};
 ghost use Rattle.fork_calls.specs.Blocks.{TookAccumulators};
 ghost use Rattle.job_forks.specs.Holding.{CallLeaves, Holds, MakesPages};
-ghost use Rattle.fork_calls.specs.Needing.{call_frames};
+ghost use Rattle.fork_calls.specs.Needing.{making_frames};
 ghost use Rattle.fork_calls.specs.Steps.{begun, second_regs, whole};
 ghost use Rattle.fork_calls.specs.Turning.{Turned};
 ghost use Rattle.fork_calls.specs.declared.step.FirstStep.{FirstStep as AFirstStep};
@@ -68,7 +68,7 @@ fn accumulators<P: Pages>(regs: &Regs, who: ForkName, pages: &mut P) -> Result<[
     ensures told { (d : DrumWords) (tree : PlainTree) → P.means.fits pages.old d
         → P.means.fits pages.new d × TookAccumulators (asked who regs.now tree) (framed P.means pages.old d) (P.means.plain pages.new d) result }
     ensures core { P.means.flat ≡ true → IfErr result IsTrap }
-    ensures needs { IfErr result (StopNeeds P.means.store most_frames pages.new) }
+    ensures needs { IfErr result (StopNeeds P.means.store read_frames pages.new) }
     ensures stopped { OnErr result (pages.new ≡ pages.old) }
     ensures grows { Grows P.means who.tty 128 pages.old pages.new }
 {
@@ -151,7 +151,7 @@ pub fn make<P: Pages>(
     requires holds { Holds P.means pages.old tree.old.forks }
     requires serial { P.means.serial pages.old who.tty < 2 ^ 62 }
     ensures told { Turned P.means pages.old pages.new tree.old tree.new result (whole (asked who regs.now tree.old) (AFirstStep.Makes slot)) }
-    ensures needs { AnswerNeeds P.means.store call_frames pages.new result }
+    ensures needs { AnswerNeeds P.means.store making_frames pages.new result }
     ensures core { P.means.flat ≡ true → IsDone result }
     ensures unmade { (n : ANeed) → result ≡ Answer.Need n → MakesPages P.means who.tty 0 pages.old pages.new }
     ensures leaves { CallLeaves P.means pages.old pages.new tree.old tree.new who 128 }

@@ -7,7 +7,7 @@ ghost use Rattle.call_turns.specs.Turns.{IsRegs};
 ghost use Rattle.page_contracts.specs.declared.answers.Need.{Need as ANeed};
 ghost use Rattle.call_turns.specs.Answers.{AnswerNeeds, IsDone, HasRegs};
 ghost use Rattle.ka10_unit.specs.Gathers.{Serves};
-ghost use Rattle.ka10_unit.specs.Taking.{most_frames};
+ghost use Rattle.ka10_unit.specs.Taking.{most_frames, read_frames};
 ghost use Rattle.fork_tree.specs.Trees.{Lives};
 ghost use Rattle.job_forks.specs.Asking.{IsBelow, asked};
 ghost use Rattle.job_forks.specs.Holding.{CallLeaves, Holds, MakesPages};
@@ -65,7 +65,7 @@ pub fn set_accumulators<P: Pages>(
     requires holds { Holds P.means pages.old tree.old.forks }
     requires serial { P.means.serial pages.old who.tty < 2 ^ 62 }
     ensures told { Turned P.means pages.old pages.new tree.old tree.new result (whole (asked who regs.now tree.old) (AFirstStep.Sets fork)) }
-    ensures needs { AnswerNeeds P.means.store most_frames pages.new result }
+    ensures needs { AnswerNeeds P.means.store read_frames pages.new result }
     ensures core { P.means.flat ≡ true → IsDone result }
     ensures unmade { (n : ANeed) → result ≡ Answer.Need n → MakesPages P.means who.tty 0 pages.old pages.new }
     ensures leaves { CallLeaves P.means pages.old pages.new tree.old tree.new who 128 }

@@ -7,7 +7,7 @@ ghost use Rattle.page_contracts.specs.DrumWords.{DrumWords};
 ghost use Rattle.ka10_unit.specs.Blocks.{AreOpenAt};
 ghost use Rattle.ka10_unit.specs.Carrying.{Grows};
 ghost use Rattle.ka10_unit.specs.Gathers.{Serves, framed};
-ghost use Rattle.ka10_unit.specs.Taking.{IsTrap, StopNeeds, most_frames};
+ghost use Rattle.ka10_unit.specs.Taking.{IsTrap, StopNeeds, frames_for};
 ghost use Rattle.plain_model.specs.ForkCalls.{address_named as address_named_of};
 ghost use Rattle.call_turns.specs.Turns.{IsRegs};
 ghost use Rattle.fork_calls.specs.Blocks.{TookBlock};
@@ -45,7 +45,7 @@ pub fn block<P: Pages>(
     ensures opens { (d : DrumWords) (words : List ℕ) → P.means.fits pages.old d → result ≡ Ok words → kind ≡ AKind.Write
         → AreOpenAt who (framed P.means pages.new d) at ACCUMULATORS }
     ensures core { P.means.flat ≡ true → IfErr result IsTrap }
-    ensures needs { IfErr result (StopNeeds P.means.store most_frames pages.new) }
+    ensures needs { IfErr result (StopNeeds P.means.store (frames_for kind) pages.new) }
     ensures stopped { OnErr result (pages.new ≡ pages.old) }
     ensures grows { Grows P.means who.tty 128 pages.old pages.new }
 {

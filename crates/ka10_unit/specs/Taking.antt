@@ -6,7 +6,8 @@ use Rattle.outside.specs.declared.TheConstants.{PAGE_WORDS}
 use Rattle.machine_names.specs.declared.names.ForkName.{ForkName}
 use Rattle.machine_names.specs.declared.names.PageName.{PageName}
 use Rattle.machine_names.specs.declared.names.Kind.{Kind}
-use Rattle.machine_names.specs.declared.names.Kind.TheVariants.{Write}
+use Rattle.machine_names.specs.declared.names.Kind.TheVariants.{Read, Write}
+use Rattle.plain_units.specs.declared.unit.TheConstants.{MOST_REFERENCES}
 use Rattle.plain_units.specs.declared.unit.Put.{Put}
 use Rattle.plain_pages.specs.PlainPages.{NumberedPages}
 use Rattle.plain_pages.specs.References.{in_map, makings, page_at, slot_at}
@@ -42,9 +43,20 @@ abbrev pub IsTrap : Stop → Type 0
 IsTrap (stop.Trap channel) = Unit {0}
 IsTrap (stop.Need n) = ⊥
 
--- fewer frames than so many are free where a unit needs one: it makes two pages at most at each of 16 references
+-- how many pages a unit makes at most whose references are all of one kind: fewer frames than so many are free where it needs one
+abbrev pub frames_for : Kind → ℕ
+frames_for kind = most_made kind * MOST_REFERENCES
+
+-- so of a unit, whatever its references are, and of an address, whose words are only read
 abbrev pub most_frames : ℕ
-most_frames = 32
+most_frames = frames_for Write
+
+abbrev pub read_frames : ℕ
+read_frames = frames_for Read
+
+-- how many pages come in all where each reference that is left to a unit is of one kind
+abbrev pub most_pages : Kind → Taken → ℕ
+most_pages kind t = weight t.gather + most_made kind * (MOST_REFERENCES - length t.refs.items)
 
 -- what a stop needs first is so, over whatever drum: a map or a page is in no frame, or fewer frames are free than so many
 abbrev pub StopNeeds : {P : Type 0} → StoreMeaning P → ℕ → P → Stop → Type 0

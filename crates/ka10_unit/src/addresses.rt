@@ -1,9 +1,9 @@
 // Effective addresses of a unit that is planned.
-ghost use Rattle.std.specs.Prelude.{◌≡◌, IfErr, IfOk};
+ghost use Rattle.std.specs.Prelude.{◌≡◌, ◌≤◌, IfErr, IfOk};
 ghost use Rattle.machine_names.specs.Bounds.{IsAddress};
 ghost use Rattle.ka10_unit.specs.Gathers.{Serves};
 ghost use Rattle.ka10_unit.specs.Planning.{reached};
-ghost use Rattle.ka10_unit.specs.Taking.{Does, Spares, StopsFor};
+ghost use Rattle.ka10_unit.specs.Taking.{Does, Spares, StopNeeds, StopsFor, most_pages};
 
 use crate::references::refer;
 use crate::taken::{Stop, Taken};
@@ -26,6 +26,8 @@ pub fn address_of<P: Pages>(
     ensures spare { IfOk result (λ a. Spares 0 taken.old taken.new) }
     ensures below { IfOk result (λ a. IsAddress a.e) }
     ensures needs { IfErr result (StopsFor P.means pages.now) }
+    ensures frames { IfErr result (StopNeeds P.means.store (most_pages Kind.Read taken.old) pages.now) }
+    ensures left { IfOk result (λ a. most_pages Kind.Read taken.new ≤ most_pages Kind.Read taken.old) }
     ensures told { Does P.means pages.now regs.now.ac taken.old taken.new (reached regs.now.ac first) result }
 {
     let mut word = first;

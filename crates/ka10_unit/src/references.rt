@@ -9,7 +9,7 @@ ghost use Rattle.plain_units.specs.Steps.{denied_channel, refers, word_taken, se
 ghost use Rattle.machine_names.specs.declared.names.PageName.{PageName as APageName};
 ghost use Rattle.page_gather.specs.Gathering.{Gathers, IsNear, left_of, most_made};
 ghost use Rattle.ka10_unit.specs.Gathers.{IsOf, IsPutBelow, Serves, framed};
-ghost use Rattle.ka10_unit.specs.Taking.{AsksAt, CanPut, CanWrite, Does, HasPage, HasSpare, IsTrap, Spares, Stands, StaysOpen, StopNeeds, StopsFor, progress, so_far, spared, stands_at, widened_by};
+ghost use Rattle.ka10_unit.specs.Taking.{AsksAt, CanPut, CanWrite, Does, HasPage, HasSpare, IsTrap, Spares, Stands, StaysOpen, StopNeeds, StopsFor, most_pages, progress, so_far, spared, stands_at, widened_by};
 
 use crate::taken::{Stop, Taken};
 use arrayvec::ArrayVec;
@@ -179,6 +179,8 @@ pub fn refer_next<P: Pages>(
     ensures writes { (d : DrumWords) (f : AForkName) → P.means.fits pages.now d → Stands f (framed P.means pages.now d) taken.old → kind ≡ Kind.Write
         → CanWrite f (framed P.means pages.now d) taken.new at result }
     ensures needs { IfErr result (StopsFor P.means pages.now) }
+    ensures frames { IfErr result (StopNeeds P.means.store (most_pages kind taken.old) pages.now) }
+    ensures left { IfOk result (λ w. most_pages kind taken.new ≤ most_pages kind taken.old) }
     ensures still { (d : DrumWords) (f : AForkName) → P.means.fits pages.now d → Stands f (framed P.means pages.now d) taken.old
         → StaysOpen f (so_far (framed P.means pages.now d) taken.old) (so_far (framed P.means pages.now d) taken.new) }
 {
@@ -207,6 +209,8 @@ pub fn refer<P: Pages>(
     ensures kept { taken.new.kept ≡ taken.old.kept }
     ensures spare { IfOk result (λ w. Spares (spared kind) taken.old taken.new) }
     ensures needs { IfErr result (StopsFor P.means pages.now) }
+    ensures frames { IfErr result (StopNeeds P.means.store (most_pages kind taken.old) pages.now) }
+    ensures left { IfOk result (λ w. most_pages kind taken.new ≤ most_pages kind taken.old) }
     ensures told { Does P.means pages.now regs.now.ac taken.old taken.new (refers at kind) result }
     ensures writes { (d : DrumWords) (f : AForkName) → P.means.fits pages.now d → Stands f (framed P.means pages.now d) taken.old → kind ≡ Kind.Write
         → CanWrite f (framed P.means pages.now d) taken.new at result }

@@ -10,7 +10,7 @@ ghost use Rattle.machine_names.specs.declared.names.TheConstants.{ACCUMULATORS};
 ghost use Rattle.ka10_unit.specs.Blocks.{AreOpenAt, IsStoredAt, TakesBlock, stored_word};
 ghost use Rattle.ka10_unit.specs.Carrying.{Grows};
 ghost use Rattle.ka10_unit.specs.Gathers.{Serves, framed};
-ghost use Rattle.ka10_unit.specs.Taking.{IsTrap, StopNeeds, Stands, most_frames, pages_so_far, so_far};
+ghost use Rattle.ka10_unit.specs.Taking.{IsTrap, StopNeeds, Stands, frames_for, pages_so_far, so_far};
 
 use crate::carry::{carry, store};
 use crate::references::refer_next;
@@ -47,7 +47,7 @@ pub fn refer_block<P: Pages>(
     ensures fork { taken.new.fork ≡ fork }
     ensures kept { taken.new.kept ≡ None }
     ensures core { P.means.flat ≡ true → IfErr result IsTrap }
-    ensures needs { IfErr result (StopNeeds P.means.store most_frames pages.now) }
+    ensures needs { IfErr result (StopNeeds P.means.store (frames_for kind) pages.now) }
     ensures told { (d : DrumWords) → P.means.fits pages.now d → TakesBlock fork (framed P.means pages.now d) regs.now at kind taken.new result }
 {
     taken.restart(fork);

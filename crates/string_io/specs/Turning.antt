@@ -1,5 +1,6 @@
 -- A turn of a call on strings, over files, the job that calls, and pages.
 use Rattle.std.specs.Prelude.{◌≡◌, ℕ, ◌+◌, true}
+use Rattle.machine_names.specs.declared.names.Kind.TheVariants.{Read, Write}
 use Rattle.machine_names.specs.declared.names.Tty.{Tty}
 use Rattle.page_contracts.specs.declared.answers.Need.{Need}
 use Rattle.page_contracts.specs.Pages.{PagesMeaning, Scene}
@@ -11,9 +12,9 @@ use Rattle.call_turns.specs.Needing.{OneTouchNeeds, TurnNeeds}
 use Rattle.file_tables.specs.declared.tables.FileTables.{FileTables}
 use Rattle.file_tables.specs.Keys.{seen_in}
 use Rattle.ka10_unit.specs.declared.taken.Stop.{Stop}
-use Rattle.ka10_unit.specs.Taking.{IsTrap, StopNeeds}
+use Rattle.ka10_unit.specs.Taking.{IsTrap, StopNeeds, read_frames}
+use Rattle.page_gather.specs.Gathering.{most_made}
 use Rattle.text_pointers.specs.Needing.{StepsNeed}
-use Rattle.text_pointers.specs.Reading.{text_frames}
 use Rattle.file_bytes.specs.Turning.{NoNeeds, TurnedBy}
 
 -- WHAT A TURN OF A CALL ON STRINGS NEEDS FIRST: what its references need, each on the pages that those before it leave, and the page of
@@ -27,7 +28,7 @@ StringTurned means old new tables tables' line line' t result turn = TurnedBy (S
 
 -- how many frames a turn may want: those of an address, one for a byte's word that is read, and two where it is written
 abbrev pub string_frames : ℕ
-string_frames = text_frames + 1
+string_frames = read_frames + most_made Read + most_made Write
 
 -- what a turn that stops needs first is so, and it needs nothing over pages in memory
 abbrev pub StringStops : {P : Type 0} → PagesMeaning P → P → Stop → Type 0

@@ -7,8 +7,8 @@ ghost use Rattle.machine_names.specs.declared.names.Kind.{Kind as AKind};
 ghost use Rattle.page_gather.specs.Gathering.{Gathers, left_of};
 ghost use Rattle.call_turns.specs.Turns.{FitsEnd, IsRegs};
 ghost use Rattle.plain_model.specs.declared.call.End.{End as AEnd};
-ghost use Rattle.ka10_unit.specs.Gathers.{IsOf, Serves, framed};
-ghost use Rattle.ka10_unit.specs.Taking.{HasPage, Stands, pages_so_far};
+ghost use Rattle.ka10_unit.specs.Gathers.{IsOf, Serves, framed, weight};
+ghost use Rattle.ka10_unit.specs.Taking.{HasPage, Stands, pages_so_far, read_frames};
 ghost use Rattle.plain_units.specs.Instructions.{storing as storing_of};
 ghost use Rattle.string_io.specs.Depositing.{Deposits, DepositsAt};
 ghost use Rattle.string_io.specs.Turning.{StringStops};
@@ -100,6 +100,7 @@ fn deposit_at<P: Pages>(
     requires regs { IsRegs regs.now }
     requires next { IsRegs next.now.regs }
     requires address { IsAddress e }
+    requires few { weight taken.gather ≤ read_frames }
     ensures fork { IfOk result (λ plan. plan.fork ≡ taken.fork) }
     ensures fits { IfOk result (λ plan. FitsEnd (λ what. what ≡ next.now.change) plan.ending) }
     ensures needs { IfErr result (StringStops P.means pages.now) }

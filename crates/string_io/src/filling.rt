@@ -1,11 +1,12 @@
 // The page of a file that is written behind what a reading refers to.
-ghost use Rattle.std.specs.Prelude.{◌≡◌, ◌≤◌, IfErr, IsSome, None};
+ghost use Rattle.std.specs.Prelude.{◌≡◌, ◌≤◌, ◌+◌, IfErr, IsSome, None};
 ghost use Rattle.machine_names.specs.Bounds.{IsFilePage, IsOwner};
 ghost use Rattle.machine_names.specs.Orders.{file_page};
 ghost use Rattle.machine_names.specs.declared.names.Tty.{Tty as ATty};
 ghost use Rattle.page_contracts.specs.DrumWords.{DrumWords};
 ghost use Rattle.page_gather.specs.Gathering.{Gathers, left_of};
 ghost use Rattle.ka10_unit.specs.Gathers.{framed};
+ghost use Rattle.ka10_unit.specs.Taking.{read_frames};
 ghost use Rattle.string_io.specs.Filling.{FillsAs};
 ghost use Rattle.string_io.specs.Turning.{StringStops};
 
@@ -33,7 +34,7 @@ fn there<P: Pages>(gather: &Gather, pages: &P, file: FileNo, page: u16) -> Resul
 fn made<P: Pages>(gather: &Gather, pages: &P, file: FileNo, page: u16) -> Result<(), Stop>
     requires page { IsFilePage file page }
     requires none { P.means.filed pages.now (file_page file.0 page) ≡ None }
-    requires few { gather.now.homes ≤ 33 }
+    requires few { gather.now.homes ≤ read_frames + 1 }
     ensures told { (d : DrumWords) (owner : ATty) → P.means.fits pages.now d → IsOwner owner → Gathers (P.means.plain pages.now d) (P.means.scene pages.now) gather.now
         → FillsAs (framed P.means pages.now d) (left_of (P.means.plain pages.now d) gather.now) owner (file_page file.0 page) result }
     ensures needs { IfErr result (StringStops P.means pages.now) }
@@ -49,7 +50,7 @@ fn made<P: Pages>(gather: &Gather, pages: &P, file: FileNo, page: u16) -> Result
 /// the drum is full then; or the page has to come into core first, or wants a frame.
 pub fn fills<P: Pages>(gather: &Gather, pages: &P, file: FileNo, page: u16) -> Result<(), Stop>
     requires page { IsFilePage file page }
-    requires few { gather.now.homes ≤ 33 }
+    requires few { gather.now.homes ≤ read_frames + 1 }
     ensures told { (d : DrumWords) (owner : ATty) → P.means.fits pages.now d → IsOwner owner → Gathers (P.means.plain pages.now d) (P.means.scene pages.now) gather.now
         → FillsAs (framed P.means pages.now d) (left_of (P.means.plain pages.now d) gather.now) owner (file_page file.0 page) result }
     ensures needs { IfErr result (StringStops P.means pages.now) }

@@ -8,7 +8,7 @@ ghost use Rattle.plain_units.specs.Deeds.{in_ac};
 ghost use Rattle.plain_model.specs.StringCalls.{next_pointer, puts_byte as puts_byte_of, sout as sout_of, with_next};
 ghost use Rattle.call_turns.specs.Turns.{IsRegs};
 ghost use Rattle.ka10_unit.specs.Gathers.{Serves, framed, weight};
-ghost use Rattle.ka10_unit.specs.Taking.{most_frames};
+ghost use Rattle.ka10_unit.specs.Taking.{read_frames};
 ghost use Rattle.text_pointers.specs.Reading.{ReadsByte};
 ghost use Rattle.file_bytes.specs.Asking.{IsOpenAs, asked_on};
 ghost use Rattle.string_io.specs.Planning.{FitsPlan, Plans};
@@ -48,7 +48,7 @@ fn write_byte<P: Pages>(
     requires open { IsOpenAs tables.now who.tty (right (in_ac regs.now 1)) jfn }
     requires room { jfn.at < most_bytes_of jfn.size }
     requires fork { read.reader.fork ≡ who }
-    requires few { weight read.reader.gather ≤ most_frames + 1 }
+    requires few { weight read.reader.gather ≤ read_frames + 1 }
     requires pointer { pointer ≡ next_pointer (in_ac regs.now 2) }
     requires reads { (d : DrumWords) → P.means.fits pages.now d → ReadsByte who (framed P.means pages.now d) regs.now pointer (Ok read) }
     ensures told { (input : List ℕ) → Plans P.means pages.now tables.now who (λ p. let a = asked_on who regs.now tables.now input p in with_next a (puts_byte_of a (open_file tables.now.dir jfn))) result }

@@ -1,8 +1,10 @@
 -- A reading that takes the address of a pointer first.
-use Rattle.std.proofs.Common.{◌≡◌, ℕ, List, [], None, refl, sym, ◌∙◌, ap}
+use Rattle.std.proofs.Common.{◌≡◌, ℕ, List, [], None, refl, sym, ◌∙◌, ap, arith, ◌≤◌, true}
 use Rattle.std.specs.Prelude.{Ok, Err}
 use Rattle.std.specs.Ordering.{nat_cmp}
 use Rattle.machine_names.specs.declared.names.ForkName.{ForkName}
+use Rattle.machine_names.specs.declared.names.Kind.TheVariants.{Read}
+use Rattle.page_contracts.specs.Pages.{PagesMeaning}
 use Rattle.plain_units.specs.declared.registers.Regs.{Regs}
 use Rattle.plain_units.specs.Steps.{Progress, begun, run}
 use Rattle.plain_model.specs.PointedTexts.{address_steps}
@@ -11,12 +13,13 @@ use Rattle.page_gather.specs.Gathering.{after_all}
 use Rattle.ka10_deeds.specs.declared.word_fields.Address.{Address}
 use Rattle.ka10_unit.specs.declared.taken.Taken.{Taken}
 use Rattle.ka10_unit.specs.declared.taken.Stop.{Stop}
-use Rattle.ka10_unit.specs.Gathers.{Framed}
+use Rattle.ka10_unit.specs.Gathers.{Framed, weight}
 use Rattle.ka10_unit.specs.Planning.{reached}
-use Rattle.ka10_unit.specs.Taking.{Follows, Plan, progress, run_over, stop_of}
+use Rattle.ka10_unit.specs.Taking.{Follows, IsTrap, Plan, StopNeeds, most_pages, progress, read_frames, run_over, stop_of}
+use Rattle.ka10_unit.proofs.Lost.{none_left, stop_more}
 use Rattle.text_pointers.specs.declared.reader.Reader.{Reader}
 use Rattle.text_pointers.specs.Outcomes.{goes_on, read_over, reads, stops}
-use Rattle.text_pointers.specs.Reading.{Stands, pages_so_far}
+use Rattle.text_pointers.specs.Reading.{Stands, StopsFor, pages_so_far, text_frames}
 
 -- nothing is taken yet
 none_begun : (p : Framed) (ac : List ℕ) (t : Taken) → t.gather.references ≡ [] → t.refs.items ≡ [] → t.kept ≡ None → progress p ac t ≡ begun p.pages ac
@@ -47,3 +50,13 @@ module _ {A : Type 0} (f : ForkName) (p : Framed) (regs : Regs) (first : ℕ) (r
 -- a reader behind an address has referred to what that refers to
 pub behind_stands : (f : ForkName) (p : Framed) (ac : List ℕ) (first : ℕ) (none taken : Taken) (a : Address) → Follows f p ac none taken (reached ac first) (Ok a) → (r : Reader) → r.gather ≡ taken.gather → r.fork ≡ taken.fork → r.page ≡ None → Stands f p r
 behind_stands f p ac first none taken a h r of_taken same page = record { fork = same ∙ h.stands.fork; gathers = rw of_taken h.stands.gathers; page = rw page tt }
+
+-- what an address refers to is read alone, so that it comes to no more pages than it has references
+pub address_few : (t : Taken) → most_pages Read t ≤ read_frames → weight t.gather ≤ read_frames
+address_few t few = omega (arith, few)
+
+-- and where it needs something first, no more frames are wanted
+pub address_needs : {P : Type 0} (means : PagesMeaning P) (p : P) (none : Taken) → none.gather.references ≡ [] → none.gather.homes ≡ 0 → none.refs.items ≡ [] → (e : Stop) → (means.flat ≡ true → IsTrap e) → StopNeeds means.store (most_pages Read none) p e → StopsFor means p e
+address_needs means p none gather unmade refs e core needs =
+    let few = none_left Read none gather unmade refs in
+    (core, stop_more means.store p (most_pages Read none) text_frames e (omega (arith, few)) needs)

@@ -5,6 +5,7 @@ use Rattle.std.proofs.lemmas.Bool.{cases_lt}
 use Rattle.word36.specs.Words.{right}
 use Rattle.word36.specs.Bytes.{in_next_word, incremented, position, size, with_position}
 use Rattle.ka10_unit.specs.Gathers.{weight}
+use Rattle.ka10_unit.specs.Taking.{read_frames}
 use Rattle.text_pointers.specs.declared.reader.Reader.{Reader}
 use Rattle.text_pointers.specs.Reading.{MayRefer, RefersOnce}
 
@@ -31,7 +32,7 @@ pub none_behind : (before first : ℕ) (r : Reader) → first < 2 ^ 18 → r.pag
 none_behind before first r low none few = record { passed = 0; few = omega arith; here = omega arith; crosses = subst (Crosses before first 0 (weight r.gather)) (sym none) few }
 
 -- there is room for the page of the next word
-pub may_refer : (before first i at : ℕ) (r : Reader) → before ≤ 32 → i < 40 → IsBehind before first i at r → MayRefer r (at / 512)
+pub may_refer : (before first i at : ℕ) (r : Reader) → before ≤ read_frames → i < 40 → IsBehind before first i at r → MayRefer r (at / 512)
 may_refer before first i at r begun less b = by r.page refl b.crosses
   where
     second : (n : ℕ) (h : IsPageBehind before first b.passed (weight r.gather) n) → 1 ≤ h.crossed → n ≡ at / 512

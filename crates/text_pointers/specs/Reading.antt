@@ -1,5 +1,5 @@
 -- How far a reading has come, and what a part of it that was done says of the whole.
-use Rattle.std.specs.Prelude.{◌≡◌, ◌≢◌, ◌⊎◌, ℕ, ◌+◌, ◌≤◌, true, List, [], Option, None, Some, Result, Ok, Err, ⊤, false, is_some}
+use Rattle.std.specs.Prelude.{◌≡◌, ◌≢◌, ◌⊎◌, ℕ, ◌+◌, ◌*◌, ◌≤◌, true, List, [], Option, None, Some, Result, Ok, Err, ⊤, false, is_some}
 use Rattle.std.specs.Option.{option_map}
 use Rattle.arrayvec.specs.ArrayVec.{ArrayVec}
 use Rattle.machine_names.specs.declared.names.ForkName.{ForkName}
@@ -15,11 +15,11 @@ use Rattle.plain_model.specs.declared.text.TheConstants.{MOST_BYTES}
 use Rattle.plain_model.specs.PointedTexts.{byte_at, bytes_from, text_at}
 use Rattle.plain_units.specs.Steps.{is_accumulator}
 use Rattle.plain_model.specs.Readings.{Reading, read, word_steps, words, written_steps}
-use Rattle.page_gather.specs.Gathering.{Gathers, IsNear, left_of}
+use Rattle.page_gather.specs.Gathering.{Gathers, IsNear, left_of, most_made}
 use Rattle.ka10_unit.specs.declared.taken.Stop.{Stop}
 use Rattle.ka10_unit.specs.declared.taken.Stop.TheVariants as stop
 use Rattle.ka10_unit.specs.Gathers.{Framed, asks, weight}
-use Rattle.ka10_unit.specs.Taking.{IsOpenAt, IsTrap, StopNeeds, asked_as, most_frames, stop_of}
+use Rattle.ka10_unit.specs.Taking.{IsOpenAt, IsTrap, StopNeeds, asked_as, read_frames, stop_of}
 use Rattle.text_pointers.specs.declared.reader.Reader.{Reader}
 use Rattle.text_pointers.specs.declared.byte.PointedByte.{PointedByte}
 use Rattle.text_pointers.specs.Outcomes.{IsPlain, Outcome, leaves, read_on, read_over, stops}
@@ -51,9 +51,9 @@ pub record Stands (f : ForkName) (p : Framed) (r : Reader) : Type 0 where
 
 -- ---- how much is referred to
 
--- how many frames a reading may want: those of its address, and two for the pages of its bytes
+-- how many frames a reading may want: those of its address, and one for each of the two pages of its bytes
 abbrev pub text_frames : ℕ
-text_frames = most_frames + 2
+text_frames = read_frames + 2 * most_made Read
 
 -- a page was referred to before, or there is room for one more
 abbrev pub MayRefer : Reader → ℕ → Type 0

@@ -4,7 +4,7 @@ ghost use Rattle.page_contracts.specs.DrumWords.{DrumWords};
 ghost use Rattle.word36.specs.Bytes.{incremented};
 ghost use Rattle.plain_model.specs.PointedTexts.{full_pointer as full_pointer_of};
 ghost use Rattle.ka10_unit.specs.Gathers.{Serves, framed, weight};
-ghost use Rattle.ka10_unit.specs.Taking.{most_frames};
+ghost use Rattle.ka10_unit.specs.Taking.{read_frames};
 ghost use Rattle.text_pointers.specs.Reading.{ReadsByte, StopsFor};
 
 use crate::reader::Reader;
@@ -44,7 +44,7 @@ pub fn byte_at<P: Pages>(
 ) -> Result<PointedByte, Stop>
     requires serves { Serves P.means pages.now fork }
     ensures fork { IfOk result (λ b. b.reader.fork ≡ fork) }
-    ensures few { IfOk result (λ b. weight b.reader.gather ≤ most_frames + 1) }
+    ensures few { IfOk result (λ b. weight b.reader.gather ≤ read_frames + 1) }
     ensures needs { IfErr result (StopsFor P.means pages.now) }
     ensures told { (d : DrumWords) → P.means.fits pages.now d → ReadsByte fork (framed P.means pages.now d) regs.now pointer result }
 {

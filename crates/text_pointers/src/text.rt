@@ -6,7 +6,7 @@ ghost use Rattle.plain_model.specs.PointedTexts.{full_pointer as full_pointer_of
 ghost use Rattle.machine_names.specs.Bounds.{IsAddress};
 ghost use Rattle.ka10_unit.specs.Carrying.{Grows};
 ghost use Rattle.ka10_unit.specs.Gathers.{Serves, framed, weight};
-ghost use Rattle.ka10_unit.specs.Taking.{most_frames};
+ghost use Rattle.ka10_unit.specs.Taking.{read_frames};
 ghost use Rattle.text_pointers.specs.Reading.{ReadsBytes, ReadsText, Stands, StopsFor, bytes_of};
 
 use crate::byte::next_pointer;
@@ -52,7 +52,7 @@ fn read_bytes<P: Pages>(
 ) -> Result<Option<Text>, Stop>
     requires serves { Serves P.means pages.now reader.old.fork }
     requires new { reader.old.page ≡ None }
-    requires few { weight reader.old.gather ≤ most_frames }
+    requires few { weight reader.old.gather ≤ read_frames }
     ensures fork { reader.new.fork ≡ reader.old.fork }
     ensures needs { IfErr result (StopsFor P.means pages.now) }
     ensures told { (d : DrumWords) → P.means.fits pages.now d → Stands reader.old.fork (framed P.means pages.now d) reader.old

@@ -25,7 +25,7 @@ use Rattle.plain_model.proofs.OtherJobs.{others_itself, put_others}
 use Rattle.call_turns.specs.Answers.{AnswerNeeds, IsDone, answer_of}
 use Rattle.ka10_unit.specs.Carrying.{Grows}
 use Rattle.ka10_unit.specs.Gathers.{framed}
-use Rattle.ka10_unit.specs.Taking.{most_frames}
+use Rattle.ka10_unit.specs.Taking.{read_frames}
 use Rattle.ka10_spots.proofs.Stored.{lost_on}
 use Rattle.fork_tree.specs.Making.{AddsLast}
 use Rattle.fork_tree.specs.Trees.{AreSlotted, IsTree}
@@ -33,7 +33,7 @@ use Rattle.fork_tree.proofs.Kept.{name_unused}
 use Rattle.fork_tree.proofs.Slots.{held_lives, some_of}
 use Rattle.job_forks.specs.Asking.{asked}
 use Rattle.job_forks.specs.Holding.{ComeOrNew, Holds, MakesPages, TopsStay, parts}
-use Rattle.fork_calls.specs.Needing.{call_frames}
+use Rattle.fork_calls.specs.Needing.{making_frames}
 use Rattle.fork_calls.specs.Steps.{made_where, second_regs}
 use Rattle.fork_calls.proofs.Adding.{adds_made, adds_nobody}
 use Rattle.fork_calls.proofs.Added.{added_dropped, added_holds, back_holds, enough_room, few_forks, no_frame, no_room, not_there, room_told}
@@ -221,7 +221,7 @@ returns-in-Ok-clause-leaves g c =
     }
 
 pub returns-in-NeedFrame-clause-needs : goal.returns-in-NeedFrame-clause-needs
-returns-in-NeedFrame-clause-needs g c = needed_more g.P.Pages.means.store 1 call_frames c.args.pages.now Frame (omega arith) (c.in-NeedFrame.ensures.frames refl)
+returns-in-NeedFrame-clause-needs g c = needed_more g.P.Pages.means.store 1 making_frames c.args.pages.now Frame (omega arith) (c.in-NeedFrame.ensures.frames refl)
 
 pub returns-in-Err-clause-needs : goal.returns-in-Err-clause-needs
 returns-in-Err-clause-needs g c =
@@ -232,11 +232,11 @@ returns-in-Err-clause-needs g c =
     let same = c.in-Err.ensures.stopped in
     let names : (n : PageName) → NamesPage means mid name n → ⊥ = subst (λ s. (n : PageName) → NamesPage means s name n → ⊥) (sym same) c.add_fork.ensures.adds.names in
     let here : (means.scene mid).map_away name ≡ None = ap (λ s. (means.scene s).map_away name) same ∙ c.add_fork.ensures.scene.own in
-    subst (AnswerNeeds means.store call_frames new) (sym c.stopped.ensures.answer)
-    (dropped_needs means most_frames mid new name (g.met.P.Pages.housed mid) (g.met.P.Pages.housed new) names here c.drop_fork.ensures.drops c.in-Err.stop c.in-Err.ensures.needs)
+    subst (AnswerNeeds means.store making_frames new) (sym c.stopped.ensures.answer)
+    (dropped_needs means read_frames mid new name (g.met.P.Pages.housed mid) (g.met.P.Pages.housed new) names here c.drop_fork.ensures.drops c.in-Err.stop c.in-Err.ensures.needs)
 
 pub returns-in-Ok-clause-needs : goal.returns-in-Ok-clause-needs
-returns-in-Ok-clause-needs g c = done_needs g.P.Pages.means.store call_frames c.accumulators.new.pages c.returned.result c.returned.ensures.core
+returns-in-Ok-clause-needs g c = done_needs g.P.Pages.means.store making_frames c.accumulators.new.pages c.returned.result c.returned.ensures.core
 
 pub returns-in-NeedFrame-clause-unmade : goal.returns-in-NeedFrame-clause-unmade
 returns-in-NeedFrame-clause-unmade g c n is = none_made g.P.Pages.means c.args.pages.now c.args.pages.now c.args.who.tty refl refl

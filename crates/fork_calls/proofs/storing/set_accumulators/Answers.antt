@@ -8,7 +8,7 @@ use Rattle.plain_units.specs.declared.registers.Regs.{Regs}
 use Rattle.plain_model.specs.ForkCalls.{address_named, with_accumulators_of}
 use Rattle.call_turns.specs.Answers.{AnswerNeeds, IsDone, answer_of}
 use Rattle.ka10_unit.specs.Gathers.{framed}
-use Rattle.ka10_unit.specs.Taking.{most_frames}
+use Rattle.ka10_unit.specs.Taking.{read_frames}
 use Rattle.job_forks.specs.Asking.{asked}
 use Rattle.fork_calls.specs.Blocks.{GoesOn, TookBlock}
 use Rattle.fork_calls.specs.Steps.{set_end, whole}
@@ -65,10 +65,10 @@ pub returns-in-Err-clause-needs : goal.returns-in-Err-clause-needs
 returns-in-Err-clause-needs g c =
     let store = g.P.Pages.means.store in
     let s = c.block.new.pages in
-    subst (AnswerNeeds store most_frames s) (sym c.stopped.ensures.answer) (stop_needs store most_frames s c.in-Err.stop c.in-Err.ensures.needs)
+    subst (AnswerNeeds store read_frames s) (sym c.stopped.ensures.answer) (stop_needs store read_frames s c.in-Err.stop c.in-Err.ensures.needs)
 
 pub returns-in-Ok-clause-needs : goal.returns-in-Ok-clause-needs
-returns-in-Ok-clause-needs g c = done_needs g.P.Pages.means.store most_frames c.block.new.pages c.returned.result c.returned.ensures.core
+returns-in-Ok-clause-needs g c = done_needs g.P.Pages.means.store read_frames c.block.new.pages c.returned.result c.returned.ensures.core
 
 pub returns-in-Err-clause-unmade : goal.returns-in-Err-clause-unmade
 returns-in-Err-clause-unmade g c n is =

@@ -2,9 +2,9 @@ use Rattle.std.proofs.Common.{◌≡◌, sym, ◌∙◌, ap, subst, arith}
 use Rattle.plain_model.specs.Calls.{Turn}
 use Rattle.plain_model.specs.declared.call.ForkChange.{ForkChange}
 use Rattle.plain_model.specs.ForkCalls.{fork_call}
-use Rattle.ka10_unit.specs.Taking.{most_frames}
+use Rattle.ka10_unit.specs.Taking.{most_frames, read_frames}
 use Rattle.job_forks.specs.Asking.{asked}
-use Rattle.fork_calls.specs.Needing.{call_frames}
+use Rattle.fork_calls.specs.Needing.{call_frames, making_frames}
 use Rattle.fork_calls.specs.Steps.{MakesOrFails, whole}
 use Rattle.fork_calls.specs.declared.step.FirstStep.TheVariants.{Ends}
 use Rattle.fork_calls.specs.Turning.{Turned}
@@ -49,8 +49,11 @@ returns-in-Ends-clause-leaves g c =
 pub returns-in-Ends-clause-needs : goal.returns-in-Ends-clause-needs
 returns-in-Ends-clause-needs g c = answer_more g.P.Pages.means.store 1 c.end.new.pages call_frames c.end.result (omega arith) c.end.ensures.needs
 
+pub returns-in-Makes-clause-needs : goal.returns-in-Makes-clause-needs
+returns-in-Makes-clause-needs g c = answer_more g.P.Pages.means.store making_frames c.make.new.pages call_frames c.make.result (omega arith) c.make.ensures.needs
+
 pub returns-in-Sets-clause-needs : goal.returns-in-Sets-clause-needs
-returns-in-Sets-clause-needs g c = answer_more g.P.Pages.means.store most_frames c.set_accumulators.new.pages call_frames c.set_accumulators.result (omega arith) c.set_accumulators.ensures.needs
+returns-in-Sets-clause-needs g c = answer_more g.P.Pages.means.store read_frames c.set_accumulators.new.pages call_frames c.set_accumulators.result (omega arith) c.set_accumulators.ensures.needs
 
 pub returns-in-Stores-clause-needs : goal.returns-in-Stores-clause-needs
 returns-in-Stores-clause-needs g c = answer_more g.P.Pages.means.store most_frames c.store_accumulators.new.pages call_frames c.store_accumulators.result (omega arith) c.store_accumulators.ensures.needs

@@ -1,6 +1,9 @@
 use Rattle.std.proofs.Common.{◌≡◌, true, false, rules, ◌∙◌, ap, refl, arith}
 use Rattle.std.proofs.lemmas.Result.{err_from_is_err_and}
 use Rattle.plain_units.specs.Addressing.{is_indirect}
+use Rattle.machine_names.specs.declared.names.Kind.TheVariants.{Read}
+use Rattle.ka10_unit.specs.Taking.{most_pages}
+use Rattle.ka10_unit.proofs.Lost.{stop_more}
 use Rattle.ka10_unit.proofs.Leading.{leads_none, leads_on, leads_stop, leads_done, leads_out}
 use Rattle.ka10_unit.proofs.addresses.address_of.Goals as goal
 
@@ -20,6 +23,7 @@ pub loop-left-preserved : goal.loop-left-preserved
 loop-left-preserved g c = record {
   fork = c.in_ok-word.ensures.fork ∙ c.loop-left.invariant.fork;
   spare = omega (arith, c.in_ok-word.ensures.spare, c.loop-left.invariant.spare);
+  left = omega (arith, c.in_ok-word.ensures.left, c.loop-left.invariant.left);
   kept = c.in_ok-word.ensures.kept ∙ c.loop-left.invariant.kept;
   told = λ d f fits stands.
       let ind : is_indirect c.loop-left.word ≡ true = search rules in
@@ -31,4 +35,9 @@ pub returns-clause-told : goal.returns-clause-told
 returns-clause-told g c d f fits stands = leads_out _ _ _ _ c.loop-left.taken _ c.loop-left.left c.loop-left.word c.loop-left-test.false (c.loop-left.invariant.told d f fits stands)
 
 pub loop-left-init : goal.loop-left-init
-loop-left-init g c = record { fork = refl; spare = omega arith; kept = refl; told = λ d f fits stands. leads_none _ _ _ _ _ stands }
+loop-left-init g c = record { fork = refl; spare = omega arith; left = omega arith; kept = refl; told = λ d f fits stands. leads_none _ _ _ _ _ stands }
+
+pub returns-in_err-word-clause-frames : goal.returns-in_err-word-clause-frames
+returns-in_err-word-clause-frames g c =
+    let p = err_from_is_err_and c.from_residual.result c.from_residual.ensures.1 in
+    rw (p.1, p.2) (stop_more g.P.Pages.means.store c.args.pages.now _ (most_pages Read c.args.taken.now) _ c.loop-left.invariant.left c.in_err-word.ensures.frames)

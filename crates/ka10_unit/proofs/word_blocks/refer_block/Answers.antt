@@ -7,7 +7,8 @@ use Rattle.plain_units.specs.Steps.{refers}
 use Rattle.std.specs.Prelude.{Ok, Err}
 use Rattle.ka10_unit.specs.Blocks.{TakenSoFar, address_behind}
 use Rattle.ka10_unit.specs.Gathers.{framed}
-use Rattle.ka10_unit.specs.Taking.{CanWrite, Follows}
+use Rattle.ka10_unit.specs.Taking.{CanWrite, Follows, frames_for}
+use Rattle.ka10_unit.proofs.Lost.{none_left, stop_more}
 use Rattle.ka10_unit.proofs.Adding.{sound_as}
 use Rattle.ka10_unit.proofs.Stepping.{none_stands}
 use Rattle.ka10_unit.proofs.TakenBlocks.{behind_low, block_begins, block_done, block_goes, block_stops, first_address, one_behind}
@@ -20,6 +21,7 @@ loop-i-init g c =
       fork = c.restart.ensures.fork;
       kept = c.restart.ensures.kept;
       count = rw c.restart.ensures.refs (omega arith);
+      left = none_left c.args.kind t c.restart.ensures.gather c.restart.ensures.unmade c.restart.ensures.refs;
       long = refl;
       next = first_address c.args.at c.requires.address;
       so_far = λ d fits.
@@ -47,7 +49,7 @@ pub returns-in-Err-clause-core : goal.returns-in-Err-clause-core
 returns-in-Err-clause-core g c = c.in-Err.ensures.needs.0
 
 pub returns-in-Err-clause-needs : goal.returns-in-Err-clause-needs
-returns-in-Err-clause-needs g c = c.in-Err.ensures.needs.1
+returns-in-Err-clause-needs g c = stop_more g.P.Pages.means.store c.args.pages.now _ (frames_for c.args.kind) c.in-Err.stop c.loop-i.invariant.left c.in-Err.ensures.frames
 
 pub loop-i-preserved : goal.loop-i-preserved
 loop-i-preserved g c =
@@ -58,6 +60,7 @@ loop-i-preserved g c =
       fork = e.fork ∙ c.loop-i.invariant.fork;
       kept = e.kept ∙ c.loop-i.invariant.kept;
       count = omega (arith, e.count, c.loop-i.invariant.count);
+      left = omega (arith, e.left, c.loop-i.invariant.left);
       long = length-set c.loop-i.words i c.in-Ok.word ∙ c.loop-i.invariant.long;
       next = c.next_address-next.ensures ∙ ap next_address c.loop-i.invariant.next ∙ one_behind c.args.at i;
       so_far = λ d fits.

@@ -21,7 +21,7 @@ use Rattle.file_tables.specs.Keys.{key_of}
 use Rattle.file_calls.specs.Turning.{Stays, TextNeeds}
 use Rattle.file_bytes.specs.Asking.{asked_on}
 use Rattle.file_bytes.specs.Turning.{ByteNeeds, Stays as StaysWhole}
-use Rattle.string_io.specs.Turning.{StringNeeds}
+use Rattle.string_io.specs.Turning.{StringNeeds, string_frames}
 use Rattle.plain_model.specs.Calls.{numbered}
 use Rattle.plain_model.specs.InterruptCalls.{interrupt_calls}
 use Rattle.job_forks.specs.Asking.{asked as asked_by}
@@ -412,6 +412,9 @@ returns-in-Strings-clause-told g c =
           (call.ensures.told.comes d (jobs_of (open_of was.files) was.typed was.jobs) fits (has_line was who c.args.regs.now c.args.number j.0 j.1 job.unheld typing at));
       numbers = λ d fits. dir_stays was.files call.new.tables call.ensures.others.dir;
     }
+
+pub returns-in-Strings-clause-needs : goal.returns-in-Strings-clause-needs
+returns-in-Strings-clause-needs g c = answer_more g.P.Pages.means.store string_frames c.call-in-Strings.new.pages unit_frames c.call-in-Strings.result (omega arith) c.call-in-Strings.ensures.needs
 
 pub returns-in-Strings-clause-unheld : goal.returns-in-Strings-clause-unheld
 returns-in-Strings-clause-unheld g c = still_unheld c.args.files.now c.call-in-Strings.new.tables c.args.jobs.now.items c.args.typed.now.items c.args.who.tty c.requires.job c.call-in-Strings.ensures.others.jfns

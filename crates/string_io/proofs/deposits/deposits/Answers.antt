@@ -1,8 +1,12 @@
-use Rattle.std.proofs.Common.{◌∙◌}
+use Rattle.std.proofs.Common.{◌∙◌, arith}
+use Rattle.machine_names.specs.declared.names.Kind.TheVariants.{Read}
 use Rattle.ka10_unit.specs.Gathers.{framed}
-use Rattle.ka10_unit.specs.Taking.{pages_so_far}
+use Rattle.ka10_unit.specs.Taking.{most_pages, pages_so_far}
 use Rattle.ka10_unit.proofs.Adding.{sound_as}
+use Rattle.ka10_unit.proofs.Lost.{none_left, stop_more}
 use Rattle.ka10_unit.proofs.Stepping.{none_stands}
+use Rattle.text_pointers.proofs.AddressReads.{address_few}
+use Rattle.string_io.specs.Turning.{string_frames}
 use Rattle.string_io.proofs.Depositing.{address_goes, address_stops, deposit_by, stands_by}
 use Rattle.string_io.proofs.deposits.deposits.Goals as goal
 
@@ -25,3 +29,13 @@ returns-in-Ok-clause-told g c d fits =
     let fork = address.stands.fork in
     address_goes c.args.who p n.change c.args.regs.now n.regs n.pointer n.byte c.restart.new.self c.address_of.new.taken c.restart.ensures.gather c.restart.ensures.refs c.restart.ensures.kept c.in-Ok.address kept address c.deposit_at.result
     (deposit_by c.args.who c.address_of.new.taken.fork p (pages_so_far p c.address_of.new.taken) n.change c.args.regs.now n.regs n.pointer n.byte c.in-Ok.address.e c.deposit_at.result fork (c.deposit_at.ensures.told d fits (stands_by c.args.who p c.address_of.new.taken address.stands)))
+
+pub returns-in-Err-clause-needs : goal.returns-in-Err-clause-needs
+returns-in-Err-clause-needs g c =
+    let none = none_left Read c.restart.new.self c.restart.ensures.gather c.restart.ensures.unmade c.restart.ensures.refs in
+    (c.in-Err.ensures.needs.0, stop_more g.P.Pages.means.store c.args.pages.now (most_pages Read c.restart.new.self) string_frames c.in-Err.stop (omega (arith, none)) c.in-Err.ensures.frames)
+
+pub deposit_at-requires-clause-few : goal.deposit_at-requires-clause-few
+deposit_at-requires-clause-few g c =
+    let none = none_left Read c.restart.new.self c.restart.ensures.gather c.restart.ensures.unmade c.restart.ensures.refs in
+    address_few c.address_of.new.taken (omega (arith, none, c.in-Ok.ensures.left))
