@@ -10,7 +10,7 @@ use Rattle.plain_model.specs.Interrupts.{posted}
 use Rattle.plain_model.specs.Calls.{is_among}
 use Rattle.plain_model.specs.ByteCalls.{byte_calls}
 use Rattle.plain_model.specs.ClockCalls.{clock_calls}
-use Rattle.plain_model.specs.Families.{Parts, Turned, call_turned, print_calls, printing, forking, interrupting, timing, mapping, filing, opening, bytes, strings, offered}
+use Rattle.plain_model.specs.Families.{Parts, Turned, print_calls, call_turned}
 use Rattle.plain_model.specs.FileCalls.{file_calls, jfn_calls}
 use Rattle.plain_model.specs.ForkCalls.{fork_calls}
 use Rattle.plain_model.specs.InterruptCalls.{interrupt_calls}
@@ -19,6 +19,7 @@ use Rattle.plain_model.specs.StringCalls.{string_calls}
 use Rattle.call_turns.specs.declared.family.CallFamily.{CallFamily}
 use Rattle.call_turns.specs.declared.family.CallFamily.TheVariants as family
 use Rattle.call_turns.specs.Families.{family_of, if_has}
+use Rattle.plain_model.specs.EachFamily.{forking, interrupting, timing, mapping, filing, opening, bytes, strings, printing, offered}
 
 module _ (key : List ℕ → ℕ) (v : Parts nat_cmp) (who : ForkName) (regs : Regs) (number : ℕ) where
   -- what is behind a turn of a number that is no call

@@ -6,8 +6,8 @@ use Rattle.plain_pages.specs.PlainPages.{NumberedPages}
 use Rattle.plain_model.specs.declared.call.End.{End}
 use Rattle.plain_model.specs.declared.call.SleepChange.{SleepChange}
 use Rattle.plain_model.specs.declared.call.SleepChange.TheVariants.{Nothing, Awakes}
-use Rattle.plain_model.specs.Calls.{ends, no_files, parts_behind, turn_on}
-use Rattle.plain_model.specs.ClockCalls.{ClockAsked, ClockTurn, clock_changed}
+use Rattle.plain_model.specs.Calls.{ends, no_files, parts_behind, turn_on, Turn}
+use Rattle.plain_model.specs.ClockCalls.{ClockAsked, clock_changed}
 use Rattle.plain_model.specs.Trees.{PlainTree}
 use Rattle.call_turns.specs.declared.answer.Answer.{Answer}
 use Rattle.call_turns.specs.declared.answer.Answer.TheVariants.{After}
@@ -19,7 +19,7 @@ abbrev pub asked_at : ForkName → Regs → PlainTree → ℕ → ClockAsked
 asked_at who regs tree clock = record { call = asked who regs tree; clock = clock }
 
 -- a turn that ends so
-abbrev pub ended : End SleepChange → ClockTurn
+abbrev pub ended : End SleepChange → Turn ⊥ SleepChange
 ended e = ends e
 
 -- a change that a fork's call may make: it changes the fork that calls alone
@@ -28,7 +28,7 @@ IsChange who Nothing = Unit {0}
 IsChange who (Awakes f) = f ≡ who
 
 -- A TURN OF A CALL, whatever pages there are: its answer is that of its end, and the forks that it leaves are those that this leaves
-abbrev pub Turned : PlainTree → PlainTree → Answer → ClockTurn → Type 0
+abbrev pub Turned : PlainTree → PlainTree → Answer → (Turn ⊥ SleepChange) → Type 0
 Turned tree tree' result turn =
     (p : NumberedPages) → (let c = turn_on no_files p turn in (result ≡ answer_of c.end) × (tree' ≡ parts_behind clock_changed tree tree c.end))
 

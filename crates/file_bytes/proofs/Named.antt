@@ -3,11 +3,12 @@ use Rattle.std.proofs.Common.{◌≡◌, ℕ, Bool, true, false, cond, Result, O
 use Rattle.plain_files.specs.OpenFiles.{OpenFile}
 use Rattle.plain_model.specs.declared.call.TheConstants.{NOT_OPEN}
 use Rattle.plain_model.specs.Calls.{and_then}
-use Rattle.plain_model.specs.ByteCalls.{ByteAsked, jfn_held, jfn_open, open_so}
+use Rattle.plain_model.specs.ByteCalls.{ByteAsked, jfn_held, jfn_open}
+use Rattle.std.specs.Prelude.{if◌then◌else◌}
 
 module _ (is_so : OpenFile → Bool) (a : ByteAsked) where
   abbrev behind : Result OpenFile ℕ → Result OpenFile ℕ
-  behind r = and_then r (open_so is_so)
+  behind r = and_then r (λ j. if is_so j then Ok j else Err NOT_OPEN)
 
   module _ (j : OpenFile) (held : Ok j ≡ jfn_held a) where
     pub opened : is_so j ≡ true → Ok j ≡ jfn_open is_so a

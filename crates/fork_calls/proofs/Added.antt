@@ -23,7 +23,7 @@ use Rattle.machine_names.specs.Bounds.{IsTerminal}
 use Rattle.plain_model.specs.Forks.{ForkMap, fork_in, forks_by_slot}
 use Rattle.machine_names.specs.Orders.{same_fork}
 use Rattle.page_contracts.specs.Pages.{Agrees, PagesMeaning, room_for as frames_for}
-use Rattle.plain_model.specs.Trees.{free_slot, is_free}
+use Rattle.plain_model.specs.Trees.{free_slot}
 use Rattle.plain_model.proofs.ForkMaps.{cases_name, get_put, get_put_other, get_gone, get_gone_other, names_same, same_forks, same_itself}
 use Rattle.machine_names.proofs.OrderLemmas.{fork_cmp_total}
 use Rattle.plain_pages.proofs.Whole.{live_named, live_whole, map_named}
@@ -33,6 +33,7 @@ use Rattle.fork_tree.proofs.Ranges.{first_tells}
 use Rattle.fork_tree.proofs.Slots.{empty_of}
 use Rattle.job_forks.specs.Holding.{Holds}
 use Rattle.job_forks.proofs.Places.{one_fewer, others_same}
+use Rattle.plain_model.proofs.Shorthands.{is_free}
 
 -- ---- plain pages
 

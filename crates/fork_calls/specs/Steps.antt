@@ -15,7 +15,7 @@ use Rattle.script_texts.specs.declared.status.ForkStatus.TheVariants.{Halted}
 use Rattle.plain_model.specs.Forks.{ForkMap, with_status}
 use Rattle.plain_model.specs.Trees.{next_name}
 use Rattle.plain_model.specs.Calls.{Turn, adds, ends, returning, with_ac, with_block, Asked}
-use Rattle.plain_model.specs.ForkCalls.{address_named, made_body, map_wanted, making, stored_low, with_accumulators, with_accumulators_of}
+use Rattle.plain_model.specs.ForkCalls.{address_named, made_body, map_wanted, making, stored_low, with_accumulators}
 use Rattle.fork_tree.specs.Making.{slot_for}
 use Rattle.fork_tree.specs.Trees.{Lives}
 use Rattle.call_turns.specs.Turns.{FitsEnd}
@@ -26,7 +26,7 @@ use Rattle.job_forks.specs.Limits.{IsBodyOf}
 
 -- how SFACS ends, told the words
 abbrev pub set_end : Asked → Fork → List ℕ → End ForkChange
-set_end a f words = returning (Become f.name (with_accumulators_of f.body words)) a.regs
+set_end a f words = returning (Become f.name (record f.body { regs = record f.body.regs { ac = words } })) a.regs
 
 -- how RFACS ends
 abbrev pub store_end : Asked → Fork → End ForkChange

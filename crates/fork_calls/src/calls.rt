@@ -2,13 +2,14 @@
 ghost use Rattle.std.specs.Prelude.{◌≡◌, ◌<◌, ◌^◌, IfOk, true, false};
 ghost use Rattle.plain_units.specs.declared.registers.Regs.{Regs as ARegs};
 ghost use Rattle.plain_model.specs.Calls.{given};
-ghost use Rattle.plain_model.specs.ForkCalls.{cfork as cfork_of, of_inferior, rfacs as rfacs_of, rfsts as rfsts_of, sfacs as sfacs_of, sfork as sfork_of, started_at as started_at_of, wfork as wfork_of, has_ended as has_ended_of};
+ghost use Rattle.plain_model.specs.ForkCalls.{of_inferior, rfacs as rfacs_of, sfacs as sfacs_of, started_at as started_at_of, has_ended as has_ended_of, fork_call};
 ghost use Rattle.plain_model.specs.Forks.{no_levels};
 ghost use Rattle.machine_names.specs.Bounds.{IsTerminal};
 ghost use Rattle.call_turns.specs.Turns.{IsRegs};
 ghost use Rattle.job_forks.specs.Asking.{asked};
 ghost use Rattle.job_forks.specs.Limits.{AreWithin, IsBody};
 ghost use Rattle.fork_calls.specs.Steps.{FitsStep, MakesOrFails, whole};
+ghost use Rattle.plain_model.specs.declared.call.TheConstants.{CFORK, RFSTS, SFORK, WFORK};
 
 use crate::standing::{place_word, status_word};
 use crate::step::FirstStep;
@@ -27,7 +28,7 @@ use word36::{Flags, Word};
 /// CFORK: makes an inferior. FORKS_FULL, SERIALS_OUT, NO_ROOM.
 pub fn cfork(who: ForkName, tree: &Tree) -> FirstStep
     requires { IsTerminal who.tty }
-    ensures turn { (regs : ARegs) → whole (asked who regs tree.now) result ≡ cfork_of (asked who regs tree.now) }
+    ensures turn { (regs : ARegs) → whole (asked who regs tree.now) result ≡ fork_call CFORK (asked who regs tree.now) }
     ensures fits { (regs : ARegs) → FitsStep (asked who regs tree.now) result }
     ensures makes { MakesOrFails result }
 {
@@ -72,7 +73,7 @@ pub fn rfork(regs: &Regs, who: ForkName, tree: &Tree) -> Result<FirstStep, u32>
 pub fn rfsts(regs: &Regs, who: ForkName, tree: &Tree) -> Result<FirstStep, u32>
     requires regs { IsRegs regs.now }
     requires within { AreWithin tree.now.forks }
-    ensures turn { given result (whole (asked who regs.now tree.now)) ≡ rfsts_of (asked who regs.now tree.now) }
+    ensures turn { given result (whole (asked who regs.now tree.now)) ≡ fork_call RFSTS (asked who regs.now tree.now) }
     ensures fits { IfOk result (FitsStep (asked who regs.now tree.now)) }
 {
     let fork = own_named(regs, who, tree)?;
@@ -114,7 +115,7 @@ fn started_at(address: u32, body: &Body) -> Body
 /// SFORK: starts an inferior at the address in accumulator 2. NO_HANDLE, NO_INFERIOR.
 pub fn sfork(regs: &Regs, who: ForkName, tree: &Tree) -> Result<FirstStep, u32>
     requires { IsRegs regs.now }
-    ensures turn { given result (whole (asked who regs.now tree.now)) ≡ sfork_of (asked who regs.now tree.now) }
+    ensures turn { given result (whole (asked who regs.now tree.now)) ≡ fork_call SFORK (asked who regs.now tree.now) }
     ensures fits { IfOk result (FitsStep (asked who regs.now tree.now)) }
 {
     let fork = inferior_named(regs, who, tree)?;
@@ -167,7 +168,7 @@ fn has_ended(status: ForkStatus) -> bool
 /// WFORK: waits until an inferior is halted or forced. NO_HANDLE, NO_INFERIOR.
 pub fn wfork(regs: &Regs, who: ForkName, tree: &Tree) -> Result<FirstStep, u32>
     requires { IsRegs regs.now }
-    ensures turn { given result (whole (asked who regs.now tree.now)) ≡ wfork_of (asked who regs.now tree.now) }
+    ensures turn { given result (whole (asked who regs.now tree.now)) ≡ fork_call WFORK (asked who regs.now tree.now) }
     ensures fits { IfOk result (FitsStep (asked who regs.now tree.now)) }
 {
     let fork = inferior_named(regs, who, tree)?;

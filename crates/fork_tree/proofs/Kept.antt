@@ -13,12 +13,13 @@ use Rattle.machine_names.specs.declared.names.Tty.{Tty}
 use Rattle.machine_names.specs.declared.names.ForkName.{ForkName}
 use Rattle.machine_names.specs.declared.names.TheConstants.{TERMINALS, MOST_FORKS, LAST_SERIAL}
 use Rattle.plain_model.specs.declared.fork.Fork.{Fork}
-use Rattle.plain_model.specs.Trees.{changed, free_slot, is_free, new_fork, next_name, PlainTree, next_serial}
+use Rattle.plain_model.specs.Trees.{changed, free_slot, new_fork, next_name, PlainTree, next_serial}
 use Rattle.fork_tree.specs.declared.tree.NoFork.TheVariants.{ForksFull, SerialsOut}
 use Rattle.fork_tree.specs.Making.{room_for}
 use Rattle.fork_tree.specs.Trees.{AreSlotted, IsIn, IsTree, Lives, no_forks}
 use Rattle.fork_tree.proofs.Ranges.{first_tells}
 use Rattle.fork_tree.proofs.Slots.{cases_name, get_gone, get_gone_other, get_put, get_put_other, in_found, in_tells, some_of}
+use Rattle.plain_model.proofs.Shorthands.{is_free}
 
 -- no fork lives
 nobody : (name : ForkName) (f : Fork) → map.get (map.empty {X = Fork} {R = fork_cmp}) name ≡ Some f → ⊥

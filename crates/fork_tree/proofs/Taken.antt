@@ -13,11 +13,12 @@ use Rattle.machine_names.specs.declared.names.Tty.{Tty}
 use Rattle.machine_names.specs.declared.names.TheConstants.{TERMINALS, MOST_FORKS}
 use Rattle.plain_model.specs.declared.fork.Fork.{Fork}
 use Rattle.plain_model.specs.Forks.{fork_in}
-use Rattle.plain_model.specs.Trees.{free_slot, is_free}
+use Rattle.plain_model.specs.Trees.{free_slot}
 use Rattle.fork_tree.specs.Places.{AreTaken, IsWholeTable, forks_of, place_bit, place_in}
 use Rattle.fork_tree.proofs.Ranges.{first_found, first_none}
 use Rattle.fork_tree.proofs.Tables.{in_place}
 use Rattle.fork_tree.proofs.TableChanges.{table_changed}
+use Rattle.plain_model.proofs.Shorthands.{is_free}
 
 -- no fork stands in any place
 pub taken_none : (places : List (Option Fork)) (n : ℕ) (taken : List ℕ) → places ≡ replicate n None → taken ≡ replicate TERMINALS 1 → AreTaken places taken

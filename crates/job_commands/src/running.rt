@@ -1,14 +1,16 @@
 // RUN: the top fork begins a program.
-ghost use Rattle.std.specs.Prelude.{◌≡◌, ◌<◌, IsSome, true};
+ghost use Rattle.std.specs.Prelude.{◌≡◌, ◌<◌, IsSome, true, None};
 ghost use Rattle.std.specs.FinMap as map;
 ghost use Rattle.machine_names.specs.declared.names.TheConstants.{MOST_FILES};
 ghost use Rattle.page_contracts.specs.DrumWords.{DrumWords};
-ghost use Rattle.plain_model.specs.Commands.{begun_at, with_program_body};
+ghost use Rattle.plain_model.specs.Commands.{begun_at};
 ghost use Rattle.plain_model.specs.Trees.{with_changed_of};
 ghost use Rattle.fork_tree.specs.Trees.{IsTree};
 ghost use Rattle.job_forks.specs.Holding.{Holds, parts};
 ghost use Rattle.job_commands.specs.Leaving.{RunLeaves};
 ghost use Rattle.job_commands.specs.Programs.{IsRun};
+ghost use Rattle.script_texts.specs.declared.status.ForkStatus.TheVariants.{Run as Running};
+ghost use Rattle.plain_model.specs.Forks.{first_regs, psi_at_rest};
 
 use crate::leaving::kill_inferiors;
 use crate::program::{map_program, start_of};
@@ -27,7 +29,7 @@ pub struct NoProgram;
 // Nothing is in a fork's accumulators, it has no flags, its interrupts are at rest, it doesn't sleep, and it runs at an address.
 #[tactic(auto, unfolding(plain_model::specs::Forks::first_regs, plain_model::specs::Forks::psi_at_rest))]
 fn begin(body: &mut Body, address: u32)
-    ensures { body.new ≡ with_program_body address body.old }
+    ensures { body.new ≡ (record body.old { status = Running; regs = record first_regs { pc = address }; psi = psi_at_rest; sleep = None }) }
 {
     body.status = ForkStatus::Run;
     body.regs = Regs {

@@ -9,9 +9,10 @@ use Rattle.ka10_table.specs.declared.families.OpMode.{OpMode}
 use Rattle.ka10_table.specs.declared.families.OpMode.TheVariants.{Basic, Immediate, Memory, Both, Own}
 use Rattle.ka10_table.specs.declared.families.TableRow.{TableRow}
 use Rattle.plain_units.specs.declared.registers.Regs.{Regs}
-use Rattle.plain_units.specs.Deeds.{Deed, Operands, deed_of, done_by, in_ac, operands, operated, computes, moves, combines, counts, jumps_or_skips, pushes_or_pops, calls_by_word, calls_by_accumulator, moves_half, up}
+use Rattle.plain_units.specs.Deeds.{Deed, Operands, deed_of, in_ac, operands, operated, computes, moves, counts, jumps_or_skips, pushes_or_pops, calls_by_word, calls_by_accumulator, moves_half, up}
 use Rattle.ka10_in_place.specs.Stores.{IsNowhere, GoesTo}
 use Rattle.ka10_in_place.specs.Targets.{Target, unstored, operand, top, block, target_of, target_by, by_mode_at, by_eight, StoresAt, place_of}
+use Rattle.plain_units.proofs.Shorthands.{done_by, combines}
 
 -- a deed stores there, over what it works on
 abbrev StoresOver : Target → Operands → Deed → Type 0

@@ -9,7 +9,8 @@ use Rattle.ka10_table.specs.declared.families.OpMode.{OpMode}
 use Rattle.ka10_table.specs.declared.families.OpMode.TheVariants.{Basic, Immediate, Memory, Both, Own}
 use Rattle.ka10_table.specs.declared.families.TableRow.{TableRow}
 use Rattle.plain_units.specs.declared.registers.Regs.{Regs}
-use Rattle.plain_units.specs.Deeds.{Deed, Operands, Store, nowhere, back, into, before, calls_by_accumulator, calls_by_word, combines, computes, counts, deed_of, done_by, halves_up, jumps_or_skips, moves, moves_half, operands, operated, pushes_or_pops}
+use Rattle.plain_units.specs.Deeds.{Deed, Operands, Store, nowhere, back, into, before, calls_by_accumulator, calls_by_word, computes, counts, deed_of, halves_up, jumps_or_skips, moves, moves_half, operands, operated, pushes_or_pops}
+use Rattle.plain_units.proofs.Shorthands.{done_by, combines}
 
 -- whether a store comes before the accumulators
 abbrev is_before : Store → Bool

@@ -15,7 +15,7 @@ use Rattle.plain_units.specs.declared.registers.Regs.{Regs}
 use Rattle.plain_model.specs.State.{PlainJob}
 use Rattle.plain_model.specs.Calls.{Came, numbered, turn_on}
 use Rattle.plain_model.specs.Families.{asks_bytes, call_turned}
-use Rattle.plain_model.specs.ByteCalls.{ByteAsked, ByteRows, byte_calls, byte_changed, with_input}
+use Rattle.plain_model.specs.ByteCalls.{ByteAsked, byte_calls, byte_changed, with_input, ByteTurn}
 use Rattle.plain_model.specs.FileCalls.{FileParts, Jobs, with_held}
 use Rattle.plain_model.specs.StringCalls.{string_calls}
 use Rattle.plain_model.specs.declared.call.ByteChange.{ByteChange}
@@ -64,7 +64,7 @@ module _ (was : Tables) (who : ForkName) (regs : Regs) (number : ℕ) (j : Job) 
   bytes_asked p = λ i. record (asked_on who regs was.files line.input p) { held = has_line.jfns i; input = has_line.input i }
 
   -- how it comes out, of calls that are asked so
-  abbrev came : ByteRows → NumberedPages → ByteAsked → Came nat_cmp ByteChange
+  abbrev came : (List (ℕ × (ByteAsked → ByteTurn))) → NumberedPages → ByteAsked → Came nat_cmp ByteChange
   came rows p a = turn_on (seen_in was.files) p (numbered rows number a)
 
   module _ (files : FileTables) (left : InputLine) (stay : OthersStay t was.files files line left) (within : t.0 < length was.jobs) (room : t.0 < length was.typed) where
@@ -94,7 +94,7 @@ module _ (was : Tables) (who : ForkName) (regs : Regs) (number : ℕ) (j : Job) 
     told x p = record { pages = p; files = files_of x.files; jobs = jobs_of (open_of x.files) x.typed x.jobs }
 
     -- so it is left, where what is behind it is known by its family
-    module _ (rows : ByteRows) (p q : NumberedPages) (a : Answer) (went : BytesWent (key_of was.files) (parts_in (rest_of was) p) who regs number rows (told now q) a → call_turned (key_of was.files) (parts_in (rest_of was) p) who regs number ≡ answered_turn (with_filed (parts_in (rest_of was) p) (told now q)) who a) where
+    module _ (rows : List (ℕ × (ByteAsked → ByteTurn))) (p q : NumberedPages) (a : Answer) (went : BytesWent (key_of was.files) (parts_in (rest_of was) p) who regs number rows (told now q) a → call_turned (key_of was.files) (parts_in (rest_of was) p) who regs number ≡ answered_turn (with_filed (parts_in (rest_of was) p) (told now q)) who a) where
       pub rows_turned : (IsReason : Need → Type 0)
           → (let c = came rows p (asked_on who regs was.files line.input p) in IsTurn IsReason (byte_changed (key_of was.files)) (parts jobs was.files p) (parts jobs was.files c.pages) (parts (jobs_with jobs t files left) files q) a c.end)
           → TurnedSo (key_of was.files) (parts_in (rest_of was) p) (parts_in (rest_of now) q) who regs number a

@@ -19,7 +19,7 @@ use Rattle.plain_units.specs.declared.registers.Regs.{Regs}
 use Rattle.plain_pages.specs.PlainPages.{NumberedPages}
 use Rattle.plain_model.specs.ByteCalls.{ByteAsked, ByteTurn, byte_calls, byte_changed}
 use Rattle.plain_model.specs.Calls.{Came, Turn, fork_behind, no_files, numbered, out_of, parts_behind, turn_on}
-use Rattle.plain_model.specs.Families.{Parts, Turned, behind, call_turned, print_calls, own_changed, asks, asks_bytes, asks_clock, sleeps_changed, asks_jfns, asks_maps, bytes_changed, files_seen, forks_changed, interrupts_changed, jfns_changed, names_seen, pages_changed}
+use Rattle.plain_model.specs.Families.{Parts, Turned, behind, print_calls, asks, asks_bytes, asks_clock, asks_jfns, asks_maps, bytes_changed, files_seen, forks_changed, interrupts_changed, jfns_changed, names_seen, call_turned}
 use Rattle.plain_model.specs.FileCalls.{FileParts, file_call, file_changed, jfn_call}
 use Rattle.plain_model.specs.ForkCalls.{ForkParts, fork_call, fork_changed}
 use Rattle.plain_model.specs.ClockCalls.{clock_calls, clock_changed}
@@ -42,6 +42,7 @@ use Rattle.fork_tree.proofs.Slots.{get_put, in_found, in_tells, some_of}
 use Rattle.job_forks.specs.Limits.{AreWithin, IsBody}
 use Rattle.job_forks.specs.Holding.{parts}
 use Rattle.monitor_calls.specs.ForkUnit.{TurnedSo, answered, answered_turn, out_in, put_back}
+use Rattle.plain_model.specs.EachFamily.{own_changed, sleeps_changed, pages_changed}
 
 -- what holds of the body of the fork in a slot
 pub body_has : (P : Body → Type 0) (o : Option Fork) (b : Body) → IsSome o → b ≡ body_in o → ((f : Fork) → o ≡ Some f → P f.body) → P b

@@ -10,7 +10,7 @@ use Rattle.plain_units.specs.declared.registers.Regs.{Regs}
 use Rattle.script_texts.specs.declared.status.WaitOn.TheVariants.{Input, Fork as AFork, Sleep}
 use Rattle.script_texts.specs.declared.status.ForkStatus.{ForkStatus}
 use Rattle.script_texts.specs.declared.status.ForkStatus.TheVariants.{Forced as AForced, Halted as AHalted, Run, Wait}
-use Rattle.plain_model.specs.Calls.{behind_call, failed_regs, posted_if, with_error}
+use Rattle.plain_model.specs.Calls.{behind_call, posted_if, with_error, with_ac}
 use Rattle.plain_model.specs.Forks.{with_regs, with_status, counted}
 use Rattle.plain_model.specs.declared.interrupt.Delivery.{Delivery}
 use Rattle.plain_model.specs.Inspections.{delivered, interrupted_word}
@@ -65,7 +65,7 @@ module _ (f : Fork) (regs : Regs) (pc : regs.pc < 2 ^ 18) (accumulators : length
   halted_keeps = record { name = refl; slot = refl; superior = refl; status = λ s c h. absurd (cc h); pc = wrapped (regs.pc + 1); accumulators = accumulators; units = refl }
 
 -- it returns by the first of two returns
-failed_keeps : (f : Fork) (code : ℕ) → length f.body.regs.ac ≡ ACCUMULATORS → Kept f (counted (with_error (with_regs f (failed_regs f.body.regs code)) code)) 1
+failed_keeps : (f : Fork) (code : ℕ) → length f.body.regs.ac ≡ ACCUMULATORS → Kept f (counted (with_error (with_regs f (behind_call (with_ac f.body.regs 1 code))) code)) 1
 failed_keeps f code acs = record {
   name = refl;
   slot = refl;

@@ -20,7 +20,7 @@ use Rattle.plain_units.specs.declared.channel.TheConstants.{ILLEGAL_INSTRUCTION}
 use Rattle.plain_model.proofs.ForkEnds.{named_below}
 use Rattle.plain_model.proofs.Turns.{adds_comes, takes_comes}
 use Rattle.plain_model.specs.Calls.{Asked, Turn, adds, ends, given, no_files, turn_on, with_block}
-use Rattle.plain_model.specs.ForkCalls.{address_named, cfork, fork_call, inferior_named, making, making_in, map_wanted, of_inferior, own_named, rfacs, rfsts, sfacs, waits_for, wfork, with_accumulators}
+use Rattle.plain_model.specs.ForkCalls.{address_named, fork_call, inferior_named, making, making_in, map_wanted, of_inferior, own_named, rfacs, sfacs, with_accumulators}
 use Rattle.plain_model.specs.Forks.{ForkMap}
 use Rattle.plain_model.specs.Inferiors.{is_inferior}
 use Rattle.plain_model.specs.Trees.{free_slot, next_name, next_serial}
@@ -30,6 +30,7 @@ use Rattle.plain_model.specs.declared.call.ForkChange.{ForkChange}
 use Rattle.plain_model.specs.declared.call.ForkChange.TheVariants.{Kill}
 use Rattle.plain_model.specs.declared.call.TheConstants.{CFORK, KFORK, FFORK, RFORK, RFSTS, SFORK, SFACS, RFACS, HFORK, WFORK, HALTF, FORKS_FULL, SERIALS_OUT, NO_ROOM}
 use Rattle.plain_model.specs.declared.fork.Fork.{Fork}
+use Rattle.plain_model.proofs.Shorthands.{waits_for}
 
 -- a change that kills none; and the end of a turn whose change, if it is done, is none that kills, or is one of forks below a caller
 abbrev KillsNone : ForkChange → Type 0
@@ -92,7 +93,7 @@ module _ {K : Type 0} {file_cmp : K → K → Ordering} (a : Asked) (p : PlainPa
       cond_both (nat_lt LAST_SERIAL (next_serial a.tree a.who.tty)) (ends (Failed SERIALS_OUT)) (adds (next_name a.tree a.who.tty) (map_wanted a) (added slot)) None (λ out. over_holds EndsNone p (Failed SERIALS_OUT) tt)
       (λ few. adds_comes no_files p (λ e q. EndsNone e) (next_name a.tree a.who.tty) (map_wanted a) (added slot) (λ room. made_none slot _) (λ none. over_holds EndsNone p (Failed NO_ROOM) tt))
 
-  cfork_none : None (cfork a)
+  cfork_none : None (fork_call CFORK a)
   cfork_none = looked_up None (making_in a) (ends (Failed FORKS_FULL)) (free_slot a.tree.forks a.who.tty) (λ slot is. making_none slot) (λ none. over_holds EndsNone p (Failed FORKS_FULL) tt)
 
   waits_none : (status : ForkStatus) → EndsNone (waits_for a.regs status)
@@ -111,16 +112,16 @@ module _ {K : Type 0} {file_cmp : K → K → Ordering} (a : Asked) (p : PlainPa
   -- THE FORK CALL THAT KILLS, of a number
   pub call_kills : (number : ℕ) → KillsIf (KFORK == number) a.tree.forks a.who (turn_on no_files p (fork_call number a)).end
   call_kills number =
-      cond_both (CFORK == number) _ _ Goes (λ is. off CFORK is refl (cfork a) cfork_none) (λ n1.
+      cond_both (CFORK == number) _ _ Goes (λ is. off CFORK is refl (fork_call CFORK a) cfork_none) (λ n1.
       cond_both (KFORK == number) _ _ Goes (λ is. on is) (λ n2.
       cond_both (FFORK == number) _ _ Goes (λ is. off FFORK is refl _ (of_none _ (λ f. tt))) (λ n3.
       cond_both (RFORK == number) _ _ Goes (λ is. off RFORK is refl _ (of_none _ (λ f. tt))) (λ n4.
-      cond_both (RFSTS == number) _ _ Goes (λ is. off RFSTS is refl (rfsts a) (given_holds EndsNone (own_named a) _ (λ code. tt) (λ f same. over_holds EndsNone p _ tt))) (λ n5.
+      cond_both (RFSTS == number) _ _ Goes (λ is. off RFSTS is refl (fork_call RFSTS a) (given_holds EndsNone (own_named a) _ (λ code. tt) (λ f same. over_holds EndsNone p _ tt))) (λ n5.
       cond_both (SFORK == number) _ _ Goes (λ is. off SFORK is refl _ (of_none _ (λ f. tt))) (λ n6.
       cond_both (SFACS == number) _ _ Goes (λ is. off SFACS is refl (sfacs a) (given_holds EndsNone (inferior_named a) _ (λ code. tt) (λ f same. block_none (address_named a.regs) Read p _ (λ words. tt)))) (λ n7.
       cond_both (RFACS == number) _ _ Goes (λ is. off RFACS is refl (rfacs a) (given_holds EndsNone (inferior_named a) _ (λ code. tt) (λ f same. block_none (address_named a.regs) Write p _ (λ words. tt)))) (λ n8.
       cond_both (HFORK == number) _ _ Goes (λ is. off HFORK is refl _ (of_none _ (λ f. tt))) (λ n9.
-      cond_both (WFORK == number) _ _ Goes (λ is. off WFORK is refl (wfork a) (given_holds EndsNone (inferior_named a) _ (λ code. tt) (λ f same. over_holds EndsNone p _ (waits_none f.body.status)))) (λ n10.
+      cond_both (WFORK == number) _ _ Goes (λ is. off WFORK is refl (fork_call WFORK a) (given_holds EndsNone (inferior_named a) _ (λ code. tt) (λ f same. over_holds EndsNone p _ (waits_none f.body.status)))) (λ n10.
       cond_both (HALTF == number) _ _ Goes (λ is. off HALTF is refl (ends Halts) (over_holds EndsNone p Halts tt)) (λ n11. still n2 (ends (Trap ILLEGAL_INSTRUCTION)) (over_holds EndsNone p (Trap ILLEGAL_INSTRUCTION) tt))))))))))))
     where
       Goes : Turn ⊥ ForkChange → Type 0

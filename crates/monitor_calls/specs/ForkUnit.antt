@@ -19,7 +19,7 @@ use Rattle.plain_pages.specs.PlainPages.{NumberedPages}
 use Rattle.plain_files.specs.Directory.{Files, IsAbsent}
 use Rattle.plain_files.specs.Sizes.{PlainFile}
 use Rattle.plain_model.specs.FileCalls.{Jobs}
-use Rattle.plain_model.specs.Calls.{behind_call, failed_regs, posted_if, with_error, with_wait}
+use Rattle.plain_model.specs.Calls.{behind_call, posted_if, with_error, with_wait, with_ac}
 use Rattle.plain_typing.specs.Lines.{InputLine}
 use Rattle.plain_model.specs.declared.call.TheConstants.{KFORK}
 use Rattle.plain_model.specs.InterruptCalls.{living_codes}
@@ -273,7 +273,7 @@ answered f (answer.After regs out post) = posted_if (with_regs f regs) post
 answered f (answer.Wait what) = with_wait f what
 answered f answer.Halt = with_status (with_regs f (behind_call f.body.regs)) AHalted
 answered f (answer.Refused code) = posted (with_error f code) ILLEGAL_INSTRUCTION
-answered f (answer.Failed code) = with_error (with_regs f (failed_regs f.body.regs code)) code
+answered f (answer.Failed code) = with_error (with_regs f (behind_call (with_ac f.body.regs 1 code))) code
 answered f (answer.Trap channel) = posted f channel
 answered f (answer.Need wanted) = f
 

@@ -8,7 +8,7 @@ ghost use Rattle.plain_model.specs.declared.fork.Fork.{Fork as AFork};
 ghost use Rattle.script_texts.specs.declared.status.ForkStatus.{ForkStatus as AForkStatus};
 ghost use Rattle.plain_pages.specs.PlainPages.{NumberedPages};
 ghost use Rattle.plain_model.specs.Forks.{counted, fork_in, with_regs, with_status};
-ghost use Rattle.plain_model.specs.Calls.{behind_call, failed_regs, no_files, numbered, posted_if, turn_on, with_error, with_wait};
+ghost use Rattle.plain_model.specs.Calls.{behind_call, no_files, numbered, posted_if, turn_on, with_error, with_wait, with_ac};
 ghost use Rattle.plain_model.specs.Families.{print_calls};
 ghost use Rattle.plain_model.specs.Trees.{with_body};
 ghost use Rattle.page_contracts.specs.declared.answers.Need.{Need as ANeed};
@@ -223,7 +223,7 @@ fn fail(body: &mut Body, code: u32)
     requires pc { body.old.regs.pc < 2 ^ 18 }
     requires accumulators { length body.old.regs.ac ≡ ACCUMULATORS }
     ensures fork { (f : AFork) → with_body body.new f
-        ≡ with_error (with_regs (with_body body.old f) (failed_regs body.old.regs code)) code }
+        ≡ with_error (with_regs (with_body body.old f) (behind_call (with_ac body.old.regs 1 code))) code }
     ensures units { body.new.units ≡ body.old.units }
 {
     body.regs.ac[1] = Word::wrapped(u64::from(code));

@@ -22,7 +22,7 @@ use Rattle.plain_model.specs.Unit.{Effect, refused}
 use Rattle.plain_model.specs.Trees.{PlainTree, next_name, sleepers_awoken, tree_of}
 use Rattle.fork_tree.specs.Trees.{IsTree}
 use Rattle.page_contracts.specs.Pages.{Agrees}
-use Rattle.plain_model.specs.Events.{with_job, new_job, outer, traced}
+use Rattle.plain_model.specs.Events.{with_job, new_job, outer}
 use Rattle.plain_model.specs.State.{PlainState}
 use Rattle.plain_pages.specs.NewMaps.{with_map}
 use Rattle.plain_model.proofs.Equations.{apply_outer, outer_login, outer_tick}
@@ -44,7 +44,7 @@ use Rattle.monitor_core.proofs.Systems.{fits_left, fits_still, units_changed}
 use Rattle.monitor_core.proofs.Rooms.{room_le, no_room_le, live_map, has_room}
 use Rattle.monitor_core.proofs.NamedPages.{alike_named}
 
-outer_trace : (s : PlainState) (on : Bool) → outer s (Trace on) ≡ traced s on
+outer_trace : (s : PlainState) (on : Bool) → outer s (Trace on) ≡ (record { state = record s { trace = on }; items = [] })
 unfolding outer
 outer_trace s on = refl
 

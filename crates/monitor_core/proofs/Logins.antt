@@ -13,7 +13,7 @@ use Rattle.page_contracts.specs.declared.store.Room.TheVariants.{Enough, NeedFra
 use Rattle.plain_model.specs.Forks.{fork_in, top_fork, first_regs, psi_at_rest}
 use Rattle.page_contracts.specs.Pages.{PagesMeaning, room_for as frames_for}
 use Rattle.machine_names.specs.Orders.{same_fork}
-use Rattle.plain_model.specs.Trees.{free_slot, is_free, next_name, PlainTree, next_serial}
+use Rattle.plain_model.specs.Trees.{free_slot, next_name, PlainTree, next_serial}
 use Rattle.fork_tree.specs.declared.tree.NoFork.{NoFork}
 use Rattle.fork_tree.specs.declared.tree.NoFork.TheVariants.{ForksFull, SerialsOut}
 use Rattle.fork_tree.specs.Making.{room_for, with_new, with_new_in}
@@ -27,6 +27,7 @@ use Rattle.monitor_calls.specs.Jobs.{AreUnheld, job_at}
 use Rattle.monitor_calls.specs.Limits.{IsBody}
 use Rattle.monitor_calls.specs.Sound.{AreSound}
 use Rattle.monitor_calls.proofs.Sounds.{lives_now}
+use Rattle.plain_model.proofs.Shorthands.{is_free}
 
 -- a fork is made where no slot is in use
 module _ (tree : PlainTree) (t : Tty) (none : fork_in tree.forks t 1 ≡ None) where

@@ -19,7 +19,7 @@ use Rattle.machine_names.specs.declared.names.TheConstants.{MOST_FORKS}
 use Rattle.machine_names.specs.declared.names.Tty.{Tty}
 use Rattle.plain_model.specs.ByteCalls.{ByteAsked, ByteTurn, byte_calls}
 use Rattle.plain_model.specs.Calls.{Came, Turn, fork_behind, is_among, no_files, numbered, parts_behind, posted_if, turn_on, with_error}
-use Rattle.plain_model.specs.Families.{Parts, Turned, behind as family_behind, call_turned, print_calls, own_changed, asks, asks_bytes, asks_clock, sleeps_changed, asks_jfns, asks_maps, bytes_changed, files_seen, forks_changed, interrupts_changed, jfns_changed, names_seen, pages_changed}
+use Rattle.plain_model.specs.Families.{Parts, Turned, behind as family_behind, print_calls, asks, asks_bytes, asks_clock, asks_jfns, asks_maps, bytes_changed, files_seen, forks_changed, interrupts_changed, jfns_changed, names_seen, call_turned}
 use Rattle.plain_model.specs.FileCalls.{file_call, file_calls, jfn_call, jfn_calls}
 use Rattle.plain_model.specs.ForkCalls.{fork_call, fork_calls}
 use Rattle.plain_model.specs.Forks.{ForkMap, counted, is_frozen, with_fork, with_regs, with_status}
@@ -57,6 +57,7 @@ use Rattle.plain_pages.proofs.Refiled.{NameAlike}
 use Rattle.plain_model.proofs.RefiledCalls.{AreHeld, TurnsFiled, call_refiled, refiled_all}
 use Rattle.machine_names.proofs.OrderLemmas.{name_cmp_apart}
 use Rattle.monitor_core.proofs.Filed.{AreKept, IsIn, NamedFiles, kept_alike, kept_still, keyed, unit_files, unit_keyed}
+use Rattle.plain_model.specs.EachFamily.{own_changed, sleeps_changed, pages_changed}
 
 -- the jobs once the monitor reads a terminal, if it does
 abbrev pub jobs_seen : fin.FinMap nat_cmp PlainJob → Tty → Bool → fin.FinMap nat_cmp PlainJob

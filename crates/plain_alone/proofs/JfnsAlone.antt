@@ -39,7 +39,7 @@ use Rattle.plain_model.specs.declared.call.FileChange.TheVariants.{Take, Make, O
 use Rattle.plain_model.specs.declared.call.TheConstants.{DELF, NO_JFN, NOT_OPEN, JFN_OPEN, NO_FILE, BAD_NAME, JFNS_FULL, FILE_IN_USE, BAD_SIZE}
 use Rattle.plain_model.specs.declared.fork.Fork.{Fork}
 use Rattle.plain_model.specs.Calls.{Turn, makes, ends, numbered}
-use Rattle.plain_model.specs.Families.{Parts, asks_jfns, behind, came_of, jfns_changed, names_seen, opening}
+use Rattle.plain_model.specs.Families.{Parts, asks_jfns, behind, jfns_changed, names_seen}
 use Rattle.plain_model.specs.FileCalls.{FileParts, JfnAsked, Jobs, closf, deleted, delf, file_changed, files_opened, found_or_made, gtjfn, held_at, jfn_calls, made_for, mode_in, of_jfn, openf, opened, rljfn, size_in, skipping, taking, times_held, with_held}
 use Rattle.plain_model.specs.PointedTexts.{text_at}
 use Rattle.plain_model.specs.State.{PlainState, PlainJob}
@@ -58,6 +58,7 @@ use Rattle.plain_alone.proofs.PagesChanged.{unfiled_alike}
 use Rattle.plain_alone.proofs.StatesAlike.{job_set, pages_set}
 use Rattle.plain_alone.proofs.TurnsAlike.{IsFreeTurn, IsOwnTurn, IsUsed, SightsAlike}
 use Rattle.plain_alone.proofs.UnitEnds.{EffectsAlike, reading_own}
+use Rattle.plain_model.specs.EachFamily.{came_of, opening}
 
 -- ---- the turns are the caller's own
 

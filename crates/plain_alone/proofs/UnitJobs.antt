@@ -40,7 +40,7 @@ use Rattle.plain_units.specs.Blocks.{steps_on}
 use Rattle.plain_units.specs.Steps.{Steps, Planned, Ending, done, call, trap, need, stopped as unit_stopped, begun, is_accumulator, pages_left, put_into}
 use Rattle.plain_model.specs.Calls.{Asked, Turn, fork_behind, numbered, parts_behind, out_of, posted_if}
 use Rattle.plain_model.specs.MapCalls.{entry_for, map_call, map_changed}
-use Rattle.plain_model.specs.ByteCalls.{ByteRows, byte_calls}
+use Rattle.plain_model.specs.ByteCalls.{byte_calls, ByteAsked, ByteTurn}
 use Rattle.plain_model.specs.StringCalls.{string_calls}
 use Rattle.plain_model.specs.Families.{Parts, asks, asks_bytes, asks_jfns, asks_maps, names_seen}
 use Rattle.plain_model.proofs.JfnChanges.{left_maps}
@@ -185,7 +185,7 @@ module _ (s : PlainState) (w : IsWholeMachine s) (name : ForkName) (f : Fork) (t
       left_maps nat_list_cmp_total name_cmp_apart (λ name. name) a sight (λ (m : Maps). map.get m k ≡ map.get s.pages.maps k) (filed_of (parts_of s)) c.pages c.end refl fits in
       jfn_by MapsLeft s f number (λ g is. let h = fork_behind g c.end in ended_maps (jfn_called s f number) here h h.body.status) here
 
-  byte_maps : (rows : ByteRows) → RowsFit s w f rows → (number : ℕ) → MapsLeft (byte_turned s f rows number)
+  byte_maps : (rows : List (ℕ × (ByteAsked → ByteTurn))) → RowsFit s w f rows → (number : ℕ) → MapsLeft (byte_turned s f rows number)
   byte_maps rows fit number =
       let c = byte_came s f rows number in
       let a = asks_bytes (λ name. name) (parts_of s) f.name f.body.regs in

@@ -1,6 +1,6 @@
 -- How the turn of a call on bytes ends: which JFN its change names, and to which page it refers.
 use Rattle.std.proofs.Common.{◌≡◌, ℕ, ◌+◌, ◌<◌, ◌≤◌, Bool, true, false, List, [], ◌∷◌, Option, None, Some, Result, Ok, Err, refl, sym, subst, arith}
-use Rattle.std.specs.Prelude.{◌==◌, nat_le, nat_lt}
+use Rattle.std.specs.Prelude.{◌==◌, nat_le, nat_lt, if◌then◌else◌}
 use Rattle.std.specs.Option.{option_map_or}
 use Rattle.std.specs.FinMap as map
 use Rattle.std.proofs.lemmas.Bool.{cond_both}
@@ -27,7 +27,7 @@ use Rattle.plain_model.specs.Forks.{ForkMap}
 use Rattle.plain_model.specs.Calls.{reads, touches, ends, behind_call, given, parts_behind, returning, with_ac}
 use Rattle.plain_model.specs.FileCalls.{FileParts, held_at, skipping}
 use Rattle.plain_model.specs.MapCalls.{file_spot, is_read, is_written, keyed}
-use Rattle.plain_model.specs.ByteCalls.{ByteAsked, ByteTurn, at_end, bin, bout, by_number, byte_call, byte_offset, byte_page, end_for, file_for, byte_changed, byte_pointer, given_or_fails, if_written, is_open, jfn_held, jfn_number, jfn_open, moving, next_byte, next_character, open_so, page_in, pbin, position_in, prints_byte, put_byte, rfptr, sfptr, sizef, takes_byte, written}
+use Rattle.plain_model.specs.ByteCalls.{ByteAsked, ByteTurn, at_end, bin, bout, by_number, byte_call, byte_offset, byte_page, end_for, file_for, byte_changed, byte_pointer, given_or_fails, if_written, is_open, jfn_held, jfn_number, jfn_open, moving, next_byte, next_character, page_in, pbin, position_in, prints_byte, put_byte, rfptr, sfptr, sizef, takes_byte, written}
 use Rattle.plain_model.proofs.Turns.{KeepsEnd}
 use Rattle.plain_model.proofs.MapKeeps.{AllOk, then_ok}
 use Rattle.plain_laws.proofs.ByteSizes.{page_within}
@@ -107,7 +107,7 @@ module _ (forks : ForkMap) (a : ByteAsked) (There : List ℕ → Type 0) (held :
       by (Some j) is = (is, held (jfn_number a) j is)
 
   pub open_in : (is_so : OpenFile → Bool) → AllOk Named (jfn_open is_so a)
-  open_in is_so = then_ok Named Named (jfn_held a) (open_so is_so) held_in (λ j named. cond_both (is_so j) (Ok j) (Err NOT_OPEN) (AllOk Named) (λ is. named) (λ no. tt))
+  open_in is_so = then_ok Named Named (jfn_held a) (λ j. if is_so j then Ok j else Err NOT_OPEN) held_in (λ j named. cond_both (is_so j) (Ok j) (Err NOT_OPEN) (AllOk Named) (λ is. named) (λ no. tt))
 
   fails_or : (r : Result OpenFile ℕ) (next : OpenFile → End ByteChange) → AllOk Named r → ((j : OpenFile) → Named j → FitsIt (next j)) → Fits (given_or_fails r next)
   fails_or (Ok j) next named goes = goes j named

@@ -1,6 +1,6 @@
 -- What the turns of the calls on bytes come to.
 use Rattle.std.proofs.Common.{◌≡◌, ◌≢◌, ℕ, ◌+◌, ◌<◌, ◌≤◌, Bool, true, false, cond, List, [], ◌∷◌, length, Option, None, Some, Ok, Err, refl, ◌∙◌, ap, arith}
-use Rattle.std.specs.Prelude.{◌==◌, is_some, nat_le, nat_lt}
+use Rattle.std.specs.Prelude.{◌==◌, is_some, nat_le, nat_lt, if◌then◌else◌}
 use Rattle.std.specs.Option.{option_map, option_map_or, unwrap_or}
 use Rattle.std.specs.FinMap as map
 use Rattle.std.specs.FinMap.{nat_cmp-IsAntisymmetric}
@@ -28,7 +28,7 @@ use Rattle.plain_model.specs.declared.call.End.TheVariants.{Done, Waits, Refused
 use Rattle.plain_model.specs.declared.call.ByteChange.{ByteChange}
 use Rattle.plain_model.specs.declared.call.ByteChange.TheVariants.{Nothing, Take, Move, Put}
 use Rattle.plain_model.specs.declared.fork.Fork.{Fork}
-use Rattle.plain_model.specs.ByteCalls.{ByteAsked, ByteTurn, at_end, behind_first, byte_changed, byte_offset, byte_page, file_for, files_reaching, given_or_fails, if_written, input_at, is_open, jfn_held, jfn_open, moving, next_byte, next_character, open_so, page_in, position_in, prints_byte, put_byte, takes_byte, with_input, with_position, written}
+use Rattle.plain_model.specs.ByteCalls.{ByteAsked, ByteTurn, at_end, behind_first, byte_changed, byte_offset, byte_page, file_for, files_reaching, given_or_fails, if_written, input_at, is_open, jfn_held, jfn_open, moving, next_byte, next_character, page_in, position_in, prints_byte, put_byte, takes_byte, with_input, with_position, written}
 use Rattle.plain_model.specs.Calls.{Came, Sight, and_then, behind_call, ends, fork_behind, given, parts_behind, reads, touched, touches, turn_on, with_ac}
 use Rattle.plain_model.specs.Families.{Turned, asks_bytes, behind, bytes_changed, files_seen}
 use Rattle.plain_model.specs.FileCalls.{Jobs, skipping}
@@ -121,7 +121,7 @@ module _ (s : PlainState) (f : Fork) (lives : Lives s f) where
 
     -- and whose file is open
     pub goes_on : (is_so : OpenFile → Bool) (next : OpenFile → ByteTurn) → is_so j ≡ true → given (jfn_open is_so asked) next ≡ next j
-    goes_on is_so next ready = ap (λ (o : Option OpenFile). given (and_then (option_map_or Ok o (Err NO_JFN)) (open_so is_so)) next) held ∙ ap (λ b. given (cond b (Ok j) (Err NOT_OPEN)) next) ready
+    goes_on is_so next ready = ap (λ (o : Option OpenFile). given (and_then (option_map_or Ok o (Err NO_JFN)) (λ j. if is_so j then Ok j else Err NOT_OPEN)) next) held ∙ ap (λ b. given (cond b (Ok j) (Err NOT_OPEN)) next) ready
 
     bin_reads : is_read j ≡ true → turn_of s f BIN ≡ left_of (next_byte asked j)
     bin_reads ready = ap left_of (by_file (ends (next_character asked 2 asked.input)) (ends (Refused NOT_OPEN)) (given (jfn_open is_read asked) (next_byte asked)) ∙ goes_on is_read (next_byte asked) ready)
@@ -193,7 +193,7 @@ module _ (s : PlainState) (f : Fork) (lives : Lives s f) (j : OpenFile) (held : 
   held_so next = ap (λ (o : Option OpenFile). given_or_fails (option_map_or Ok o (Err NO_JFN)) next) held
 
   open_held : is_open j ≡ true → (next : OpenFile → End ByteChange) → given_or_fails (jfn_open is_open jfn_asked) next ≡ ends (next j)
-  open_held ready next = ap (λ (o : Option OpenFile). given_or_fails (and_then (option_map_or Ok o (Err NO_JFN)) (open_so is_open)) next) held ∙ ap (λ b. given_or_fails (cond b (Ok j) (Err NOT_OPEN)) next) ready
+  open_held ready next = ap (λ (o : Option OpenFile). given_or_fails (and_then (option_map_or Ok o (Err NO_JFN)) (λ j. if is_open j then Ok j else Err NOT_OPEN)) next) held ∙ ap (λ b. given_or_fails (cond b (Ok j) (Err NOT_OPEN)) next) ready
 
   -- it changes nothing but the fork that called
   tells_so : (regs : Regs) → left_so (ends (skipping Nothing regs)) ≡ record { parts = parts_of s; caller = Some (behind_second f regs); out = None }

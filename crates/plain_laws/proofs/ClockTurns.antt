@@ -17,12 +17,13 @@ use Rattle.script_texts.specs.declared.status.WaitOn.TheVariants as on
 use Rattle.plain_model.specs.declared.call.End.TheVariants.{Waits}
 use Rattle.plain_model.specs.Calls.{Turn, ends, fork_behind, given, no_files, numbered, out_of, parts_behind, returning, turn_on, with_ac}
 use Rattle.plain_model.specs.ClockCalls.{ClockAsked, clock_calls, disms, runtm, sleep_of, sleeping, time}
-use Rattle.plain_model.specs.Families.{Parts, asks_clock, sleeps_changed}
+use Rattle.plain_model.specs.Families.{Parts, asks_clock}
 use Rattle.plain_model.specs.ForkCalls.{own_named}
 use Rattle.plain_model.specs.State.{PlainState}
 use Rattle.plain_model.specs.Unit.{Effect, parts_of, turned}
 use Rattle.plain_model.proofs.Calling.{caller_by, clock_called, clock_came, clock_left, clock_makes_none, clock_turned, sleeps_behind}
 use Rattle.plain_model.proofs.Turns.{KeepsEnd}
+use Rattle.plain_model.specs.EachFamily.{sleeps_changed}
 
 -- a change of a fork's call: it changes that fork alone
 abbrev pub SleepsOwn : ForkName → SleepChange → Type 0

@@ -28,7 +28,7 @@ use Rattle.plain_pages.specs.References.{in_file, page_at, words_at, words_of}
 use Rattle.plain_pages.proofs.ChainEquations.{named_chain}
 use Rattle.plain_pages.proofs.Counts.{total_insert}
 use Rattle.plain_model.specs.declared.fork.Fork.{Fork}
-use Rattle.plain_model.specs.Commands.{begun_at, commanded, forks_and_pages, in_program, logged_out, program_access, program_entry, prompted, running, start_address, told, with_program}
+use Rattle.plain_model.specs.Commands.{begun_at, commanded, forks_and_pages, in_program, logged_out, program_entry, prompted, running, start_address, told, with_program}
 use Rattle.plain_model.specs.FileCalls.{times_held}
 use Rattle.plain_model.specs.FileEvents.{page_named}
 use Rattle.plain_model.specs.Inferiors.{is_in_branch, is_inferior}
@@ -42,7 +42,7 @@ use Rattle.fork_tree.proofs.Branches.{left_of}
 use Rattle.fork_tree.proofs.Killing.{killed_branch}
 use Rattle.fork_tree.proofs.Leaves.{inferior_lives, inferior_over}
 use Rattle.fork_tree.proofs.Slots.{empty_of, held_lives, names_same, some_of}
-use Rattle.plain_laws.specs.CommandLaws.{BeginsProgram, IsCommand, LeavesNothing, Tells, line_done, page_of_file, page_of_fork, without_line}
+use Rattle.plain_laws.specs.CommandLaws.{BeginsProgram, IsCommand, LeavesNothing, Tells, line_done, page_of_file, page_of_fork, without_line, program_access}
 use Rattle.plain_laws.specs.MappedLaws.{KeepsPage, WritesAll}
 use Rattle.plain_laws.specs.TypeLaws.{typed}
 use Rattle.plain_laws.specs.Whole.{IsWholeMachine}

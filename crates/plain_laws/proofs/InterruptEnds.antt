@@ -21,10 +21,10 @@ use Rattle.plain_model.specs.declared.call.TheConstants.{SIR, EIR, DIR, AIC, DIC
 use Rattle.plain_model.specs.declared.fork.Body.{Body}
 use Rattle.plain_model.specs.declared.fork.Fork.{Fork}
 use Rattle.plain_model.specs.declared.interrupt.TheConstants.{CHANNELS}
-use Rattle.plain_model.specs.Calls.{Asked, and_then, ends, given, no_files, numbered, returning, turn_on}
+use Rattle.plain_model.specs.Calls.{Asked, and_then, ends, given, no_files, numbered, returning, turn_on, Turn}
 use Rattle.plain_model.specs.ForkCalls.{fork_named, if_inferior, own_named}
 use Rattle.plain_model.specs.Inferiors.{is_inferior}
-use Rattle.plain_model.specs.InterruptCalls.{InterruptTurn, ati, becoming, debrk, dismissed, dismissed_if, dti, iic, interrupt_calls, is_bad_code, level_to_end, posting, restored, without_level, word_stored}
+use Rattle.plain_model.specs.InterruptCalls.{ati, becoming, debrk, dismissed, dismissed_if, dti, interrupt_calls, is_bad_code, level_to_end, posting, restored, without_level, word_stored}
 use Rattle.plain_model.proofs.ForkMaps.{AreOwn, names_same}
 use Rattle.plain_model.proofs.JfnEnds.{reading_comes}
 use Rattle.plain_model.proofs.Turns.{Comes, KeepsEnd}
@@ -61,7 +61,7 @@ module _ {K : Type 0} {file_cmp : K → K → Ordering} (a : Asked) (own : AreOw
   EndsOwn e q = KeepsEnd (ChangesOwn a) e × After q
 
   module _ (runs : (q : PlainPages file_cmp) → After q → (steps : Steps) → PlanLeaves After a.who (steps_on a.who a.regs steps q)) (p : PlainPages file_cmp) (after : After p) where
-    abbrev Ends : PlainPages file_cmp → InterruptTurn → Type 0
+    abbrev Ends : PlainPages file_cmp → (Turn ⊥ InterruptChange) → Type 0
     Ends q t = Comes no_files q EndsOwn t
 
     over : (q : PlainPages file_cmp) → After q → (e : End InterruptChange) → KeepsEnd (ChangesOwn a) e → Ends q (ends e)
@@ -78,7 +78,7 @@ module _ {K : Type 0} {file_cmp : K → K → Ordering} (a : Asked) (own : AreOw
     becoming_ends : (change : Body → Body) → Ends p (becoming a change)
     becoming_ends change = own_ends (λ f. returning (Become f.name (change f.body)) a.regs) (λ f is. own_job a own f is)
 
-    iic_ends : Ends p (iic a)
+    iic_ends : Ends p (numbered interrupt_calls IIC a)
     iic_ends = own_ends (λ f. returning (posting a f) a.regs) (λ f is. cond_both (same_fork f.name a.who) _ _ (ChangesOwn a) (λ self. own_job a own f is) (λ other. own_job a own f is))
 
     debrk_ends : Ends p (debrk a)

@@ -18,7 +18,7 @@ use Rattle.plain_model.specs.declared.call.End.TheVariants.{Done, Failed}
 use Rattle.plain_model.specs.declared.call.FileChange.{FileChange}
 use Rattle.plain_model.specs.declared.call.FileChange.TheVariants.{Delete, Make, Open, Release, Take}
 use Rattle.plain_model.specs.declared.fork.Fork.{Fork}
-use Rattle.plain_model.specs.Calls.{Came, Sight, ends, failed_regs, fork_behind, looks, makes, parts_behind, turn_on, with_error}
+use Rattle.plain_model.specs.Calls.{Came, Sight, ends, fork_behind, looks, makes, parts_behind, turn_on, with_error, with_ac, behind_call}
 use Rattle.plain_model.specs.Families.{Turned, asks_jfns, behind, jfns_changed, names_seen}
 use Rattle.plain_model.specs.FileCalls.{JfnAsked, found_or_made, gtjfn, made_for, mode_in, of_jfn, size_in, skipping, taking, telling, times_held}
 use Rattle.plain_model.specs.Forks.{with_regs}
@@ -44,9 +44,9 @@ module _ (s : PlainState) (f : Fork) (lives : Lives s f) where
   done_so change regs q = ap (λ (o : Option Fork). record { parts = jfns_changed (λ name. name) change (record (parts_of s) { pages = q }); caller = option_map (λ g. with_regs g regs) o; out = None }) lives
 
   -- and what is refused
-  pub failed_so : (code : ℕ) (q : NamedPages) → left_by (record { end = Failed code; pages = q }) ≡ record { parts = parts_of s; caller = Some (with_error (with_regs f (failed_regs f.body.regs code)) code); out = None }
+  pub failed_so : (code : ℕ) (q : NamedPages) → left_by (record { end = Failed code; pages = q }) ≡ record { parts = parts_of s; caller = Some (with_error (with_regs f (behind_call (with_ac f.body.regs 1 code))) code); out = None }
   unfolding parts_behind fork_behind
-  failed_so code q = ap (λ (o : Option Fork). record { parts = parts_of s; caller = option_map (λ g. with_error (with_regs g (failed_regs g.body.regs code)) code) o; out = None }) lives
+  failed_so code q = ap (λ (o : Option Fork). record { parts = parts_of s; caller = option_map (λ g. with_error (with_regs g (behind_call (with_ac g.body.regs 1 code))) code) o; out = None }) lives
 
   -- GTJFN goes on with the text that it reads
   module _ (text : Option (List ℕ)) (q : NamedPages) (reads : Reads s f text q) where

@@ -1,6 +1,6 @@
 -- No code outlives its fork in a unit.
 use Rattle.std.proofs.Common.{◌≡◌, ◌≢◌, ℕ, true, Option, None, Some, inl, inr, refl, sym, ◌∙◌, ap, subst}
-use Rattle.std.specs.Prelude.{is_some}
+use Rattle.std.specs.Prelude.{is_some, List}
 use Rattle.std.specs.List.{list_any}
 use Rattle.std.specs.Option.{option_map, option_map_or}
 use Rattle.std.specs.Cmp.{nat_cmp_total}
@@ -32,10 +32,10 @@ use Rattle.plain_model.specs.ClockCalls.{clock_changed, without_moment}
 use Rattle.plain_model.specs.declared.fork.Fork.{Fork}
 use Rattle.plain_model.specs.declared.fork.TerminalMode.TheVariants.{Command}
 use Rattle.plain_files.specs.OpenFiles.{OpenFile, OpenFiles}
-use Rattle.plain_model.specs.ByteCalls.{ByteRows, behind_first, byte_calls, byte_changed, written}
+use Rattle.plain_model.specs.ByteCalls.{behind_first, byte_calls, byte_changed, written, ByteAsked, ByteTurn}
 use Rattle.plain_model.specs.Calls.{Asked, Turn, parts_behind, posted_if}
 use Rattle.plain_units.specs.declared.channel.TheConstants.{ILLEGAL_INSTRUCTION}
-use Rattle.plain_model.specs.Families.{Parts, Turned, asks, behind, bytes_changed, forks_changed, interrupts_changed, jfns_changed, own_changed, pages_changed, sleeps_changed}
+use Rattle.plain_model.specs.Families.{Parts, Turned, asks, behind, bytes_changed, forks_changed, interrupts_changed, jfns_changed}
 use Rattle.plain_model.specs.FileCalls.{deleted, file_changed, held_at, opened, with_held}
 use Rattle.plain_model.specs.ForkCalls.{fork_changed, with_halted}
 use Rattle.plain_model.specs.Forks.{ForkMap, counted, with_fork, with_regs, with_status}
@@ -45,7 +45,7 @@ use Rattle.plain_model.specs.Interrupts.{channels_of, forces, posted, posted_all
 use Rattle.plain_model.specs.State.{PlainState, PlainJob}
 use Rattle.plain_model.specs.StringCalls.{string_calls}
 use Rattle.plain_model.specs.Trees.{tree_of, with_body, with_mark}
-use Rattle.plain_model.specs.Unit.{Effect, called, caller_ended, in_command_mode, over, parts_of, stopped, turned, unit_ended, unit_of, with_parts, with_stopped}
+use Rattle.plain_model.specs.Unit.{Effect, called, caller_ended, in_command_mode, over, parts_of, stopped, turned, unit_ended, unit_of, with_parts}
 use Rattle.plain_model.proofs.Calling.{byte_came, byte_turned, called_by, clock_came, clock_turned, filed_of, fork_called, fork_came, fork_turned, interrupt_came, interrupt_turned, jfn_came, jfn_turned, map_came, map_turned, none_turned, own_came, own_turned, MakesNone}
 use Rattle.plain_model.proofs.ForkEnds.{Anyhow, FitsChange, FitsEnd, call_names}
 use Rattle.plain_model.proofs.Turns.{KeepsEnd, ends_any}
@@ -56,6 +56,8 @@ use Rattle.plain_laws.proofs.Inspected.{unit_by}
 use Rattle.plain_laws.proofs.InterruptEnds.{ChangesOwn, interrupt_names}
 use Rattle.plain_laws.proofs.LivingForks.{KeepCodes, change_codes, changed_there, narrowed_codes, put_codes, put_there, same_codes, still_living, told_if_there, told_there}
 use Rattle.plain_laws.proofs.OtherJobs.{call_stays, inferior_job}
+use Rattle.plain_model.specs.EachFamily.{own_changed, sleeps_changed, pages_changed}
+use Rattle.plain_model.proofs.Shorthands.{with_stopped}
 
 -- no code outlives its fork in what a step leaves, or in parts of the state
 abbrev pub KeepsCodes : Effect → Type 0
@@ -235,7 +237,7 @@ module _ (s : PlainState) (w : IsWholeMachine s) (are : AreOfLiving s.forks s.jo
   jfn_turned_codes : (number : ℕ) → KeepsCodes (jfn_turned s f number)
   jfn_turned_codes number = let c = jfn_came s f number in turned_codes s f.name.tty (behind (jfns_changed (λ name. name)) (parts_of s) f.name c) (behind_codes AnyChange (jfns_changed (λ name. name)) (parts_of s) c.pages c.end (ends_any c.end) are (λ change any. jfn_codes s are c.pages change))
 
-  byte_turned_codes : (rows : ByteRows) (number : ℕ) → KeepsCodes (byte_turned s f rows number)
+  byte_turned_codes : (rows : List (ℕ × (ByteAsked → ByteTurn))) (number : ℕ) → KeepsCodes (byte_turned s f rows number)
   byte_turned_codes rows number = let c = byte_came s f rows number in turned_codes s f.name.tty (behind (bytes_changed (λ name. name)) (parts_of s) f.name c) (behind_codes AnyChange (bytes_changed (λ name. name)) (parts_of s) c.pages c.end (ends_any c.end) are (λ change any. byte_codes s are c.pages change))
 
   interrupt_turned_codes : (number : ℕ) → KeepsCodes (interrupt_turned s f number)

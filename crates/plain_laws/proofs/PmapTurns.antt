@@ -24,7 +24,7 @@ use Rattle.plain_model.specs.declared.call.MapChange.{MapChange}
 use Rattle.plain_model.specs.declared.call.MapChange.TheVariants.{Map, Nothing, Put, Unmap}
 use Rattle.plain_model.specs.declared.fork.Fork.{Fork}
 use Rattle.plain_model.specs.Calls.{Came, Sight, and_then, Turn, ends, finds, fork_behind, given, if_granted, parts_behind, returning, touched, touches, turn_on}
-use Rattle.plain_model.specs.Families.{Turned, behind, files_seen, pages_changed}
+use Rattle.plain_model.specs.Families.{Turned, behind, files_seen}
 use Rattle.plain_model.specs.Forks.{with_regs}
 use Rattle.plain_model.specs.MapCalls.{ALL_ONES, MapAsked, MapPlace, access_wanted, allows, behind_page, file_spot, is_written, makes_page, map_changed, mapping_into, maps, of_file, of_fork, on_page, one_page, place_named, place_of, places_named, pmap, unmapping}
 use Rattle.plain_model.specs.State.{PlainState}
@@ -32,6 +32,7 @@ use Rattle.plain_model.specs.Unit.{parts_of}
 use Rattle.plain_laws.specs.JfnLaws.{Lives}
 use Rattle.plain_laws.specs.MappedLaws.{GoesOver, LeavesPages, NamesNone, NamesPlaces, mapped, page_of, pmap_asked, put_into, unmapped}
 use Rattle.plain_laws.proofs.RowsPut.{file_page}
+use Rattle.plain_model.specs.EachFamily.{pages_changed}
 
 -- a page that is there and may be read is read, and nothing is made
 read_stays : (p : NamedPages) (owner : Tty) (s : Slot) → IsSome (page_at p (in_map s)) → may (entry_at p.maps) s Read ≡ true → reference p (in_map s) Read owner ≡ granted p

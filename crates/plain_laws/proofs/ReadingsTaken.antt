@@ -31,13 +31,14 @@ use Rattle.plain_model.specs.declared.interrupt.TheConstants.{LEVELS}
 use Rattle.plain_model.specs.Calls.{Asked, Turn, ends, no_files, stepped, turn_on}
 use Rattle.plain_model.specs.Forks.{no_levels}
 use Rattle.plain_model.specs.Inspections.{channel_at, chosen, delivered, goes_before, inspected, inspecting, interrupted_word, judged, least_level, level_at, wanted}
-use Rattle.plain_model.specs.InterruptCalls.{InterruptTurn, debrk, dismissed, dismissed_if, level_to_end, restored, without_level}
+use Rattle.plain_model.specs.InterruptCalls.{debrk, dismissed, dismissed_if, level_to_end, restored, without_level}
 use Rattle.plain_model.specs.Interrupts.{is_panic}
 use Rattle.plain_model.specs.Readings.{Reading, ends_with, words, read, with_reading}
 use Rattle.plain_laws.specs.InterruptLaws.{FindsStored, FindsWords, GoesBefore, HasLevels, IsLevel, TakesAt}
 use Rattle.plain_laws.proofs.FlagsBack.{restored_back}
 use Rattle.plain_laws.proofs.LevelsNest.{level_least}
 use Rattle.plain_laws.proofs.StringSteps.{ended_with}
+use Rattle.plain_model.specs.declared.call.InterruptChange.{InterruptChange}
 
 -- ---- one word
 
@@ -92,7 +93,7 @@ module _ (p q : NamedPages) (a : Asked) (f g : Fork) (d : Delivery) (table : ℕ
   level_is : level_to_end g ≡ Some (table, d.found.level)
   level_is = ap (λ (o : Option ℕ). option_map_or (λ x. option_map (λ l. (x, l)) (least_level g.body.psi)) o None) tabled ∙ ap (λ (o : Option ℕ). option_map (λ l. (table, l)) o) least_is
 
-  abbrev last : ℕ → InterruptTurn
+  abbrev last : ℕ → Turn ⊥ InterruptChange
   last w = ends (Done (Become g.name (without_level g.body d.found.level)) (restored a.regs w) None None)
 
   -- DEBRK UNDOES A DELIVERY

@@ -18,7 +18,7 @@ use Rattle.plain_model.specs.declared.call.TheConstants.{DISMS}
 use Rattle.plain_model.specs.declared.fork.Fork.{Fork}
 use Rattle.plain_model.specs.Calls.{behind_call, ends, fork_behind, no_files, parts_behind, returning, turn_on, with_wait}
 use Rattle.plain_model.specs.ClockCalls.{clock_changed, sleeping, without_moment}
-use Rattle.plain_model.specs.Families.{asks_clock, behind, sleeps_changed}
+use Rattle.plain_model.specs.Families.{asks_clock, behind}
 use Rattle.plain_model.specs.Forks.{ForkMap, IsRunnable, counted, is_frozen, with_regs, with_status}
 use Rattle.plain_model.specs.State.{PlainState}
 use Rattle.plain_model.specs.Trees.{awoken, changed, tree_of, without_sleep}
@@ -30,6 +30,7 @@ use Rattle.fork_tree.proofs.Sleepers.{each_awoken, frozen_same, none_awoken}
 use Rattle.plain_laws.specs.ClockLaws.{CallsNext, SleepsTo, leaving, ticked}
 use Rattle.plain_laws.specs.JfnLaws.{Lives}
 use Rattle.plain_laws.specs.Whole.{IsWhole}
+use Rattle.plain_model.specs.EachFamily.{sleeps_changed}
 
 -- ---- calls
 

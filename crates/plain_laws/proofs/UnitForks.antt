@@ -33,9 +33,9 @@ use Rattle.plain_units.specs.Units.{unit_on}
 use Rattle.plain_units.specs.Steps.{Planned, Ending, done, call, trap, need, stopped as unit_stopped}
 use Rattle.plain_model.specs.Trees.{end_told, tree_of, with_body}
 use Rattle.plain_model.specs.Calls.{Asked, Turn, with_error, with_wait, fork_behind, out_of, parts_behind, posted_if}
-use Rattle.plain_model.specs.ByteCalls.{ByteRows, byte_calls}
+use Rattle.plain_model.specs.ByteCalls.{byte_calls, ByteAsked, ByteTurn}
 use Rattle.plain_model.specs.StringCalls.{string_calls}
-use Rattle.plain_model.specs.Unit.{Effect, in_command_mode, with_stopped, stopped, unit_ended, trapped, called, went, over, parts_of, taken_up, unit_of}
+use Rattle.plain_model.specs.Unit.{Effect, in_command_mode, stopped, unit_ended, called, went, over, parts_of, taken_up, unit_of}
 use Rattle.plain_units.proofs.Lookups.{looked_up}
 use Rattle.plain_model.proofs.Calling.{clock_called, clock_came, clock_turned, fork_came, fork_left, fork_called, fork_turned, interrupt_came, interrupt_called, interrupt_left, interrupt_turned, map_came, map_pages, map_turned, own_came, own_turned, none_turned, jfn_came, jfn_called, jfn_turned, byte_came, byte_called, byte_turned, MakesNone, caller_by, called_by, map_by, jfn_by, byte_by, own_by}
 use Rattle.plain_model.proofs.ForkMaps.{AreOwn}
@@ -44,6 +44,7 @@ use Rattle.plain_model.proofs.Turns.{KeepsEnd}
 use Rattle.plain_laws.proofs.Inspected.{unit_by}
 use Rattle.plain_laws.proofs.ClockTurns.{SleepsOwn, clock_by, clock_names}
 use Rattle.plain_laws.proofs.InterruptEnds.{ChangesOwn, interrupt_names}
+use Rattle.plain_model.proofs.Shorthands.{with_stopped}
 
 posted_if_mark : (f : Fork) (post : Option ℕ) → SameMark f (posted_if f post)
 posted_if_mark f None = (refl, refl)
@@ -106,7 +107,7 @@ module _ (job : Tty) (Holds : ForkMap → Type 0) (Good : Fork → Type 0) (keep
     good_in : (m : ForkMap) → Holds m → (g : Fork) → map.get m f.name ≡ Some g → Good g
     good_in m holds g is = keeps.found m holds f.name g here is
 
-    trapped_kept : (channel : ℕ) → Leaves (trapped s f channel)
+    trapped_kept : (channel : ℕ) → Leaves (unit_ended s (posted f channel) (posted f channel).body.status)
     trapped_kept channel = ended_kept s h (posted f channel) (posted f channel).body.status (keeps.same f (posted f channel) (posted_mark f channel) good)
 
     went_kept : (q : NamedPages) (e : Ending) → Leaves (went s f q e)
@@ -135,7 +136,7 @@ module _ (job : Tty) (Holds : ForkMap → Type 0) (Good : Fork → Type 0) (keep
     jfn_kept : (number : ℕ) → Leaves (jfn_turned s f number)
     jfn_kept number = jfn_by Leaves s f number (λ g is. with_caller (jfn_called s f number) h g (good_in s.forks h g is) (fork_behind g (jfn_came s f number).end) (behind_mark g (jfn_came s f number).end)) h
 
-    byte_kept : (rows : ByteRows) (number : ℕ) → Leaves (byte_turned s f rows number)
+    byte_kept : (rows : List (ℕ × (ByteAsked → ByteTurn))) (number : ℕ) → Leaves (byte_turned s f rows number)
     byte_kept rows number =
         let e = (byte_came s f rows number).end in
         byte_by Leaves s f number rows (λ g is. with_caller (byte_called s f rows number) h g (good_in s.forks h g is) (fork_behind g e) (behind_mark g e)) h

@@ -20,7 +20,7 @@ use Rattle.plain_model.specs.declared.call.End.TheVariants.{Done, Waits, Halts, 
 use Rattle.plain_model.specs.declared.call.ByteChange.{ByteChange}
 use Rattle.plain_model.specs.declared.call.ByteChange.TheVariants.{Nothing, Take, Move, Put}
 use Rattle.plain_model.specs.declared.fork.Fork.{Fork}
-use Rattle.plain_model.specs.ByteCalls.{ByteAsked, ByteRows, behind_first, byte_calls, byte_changed, byte_offset, byte_page, byte_pointer, files_reaching, pages_put, with_input, with_position, written}
+use Rattle.plain_model.specs.ByteCalls.{ByteAsked, behind_first, byte_calls, byte_changed, byte_offset, byte_page, byte_pointer, files_reaching, pages_put, with_input, with_position, written, ByteTurn}
 use Rattle.plain_model.specs.Calls.{numbered, parts_behind}
 use Rattle.plain_model.specs.Families.{asks_bytes}
 use Rattle.plain_model.specs.FileCalls.{held_at, with_held}
@@ -116,7 +116,7 @@ module _ (s : PlainState) (w : IsWholeMachine s) (f : Fork) where
       by (Some g) is = (w.files.named.named j.file g is).1
 
 -- calls are such that their turns fit
-abbrev pub RowsFit : (s : PlainState) → IsWholeMachine s → Fork → ByteRows → Type 0
+abbrev pub RowsFit : (s : PlainState) → IsWholeMachine s → Fork → (List (ℕ × (ByteAsked → ByteTurn))) → Type 0
 RowsFit s w f rows = (number : ℕ) → let a = asks_bytes (λ name. name) (parts_of s) f.name f.body.regs in FitsTurn s.forks a (There s w) (numbered rows number a)
 
 -- those on bytes are, and those on strings
@@ -127,7 +127,7 @@ pub strings_fit : (s : PlainState) (w : IsWholeMachine s) (f : Fork) → RowsFit
 strings_fit s w f number = string_call_in s.forks (asks_bytes (λ name. name) (parts_of s) f.name f.body.regs) (There s w) (held_fits s w f) number
 
 -- a turn, which may make pages
-module _ (s : PlainState) (w : IsWholeMachine s) (f : Fork) (own : IsOwner f.name.tty) (rows : ByteRows) (fit : RowsFit s w f rows) where
+module _ (s : PlainState) (w : IsWholeMachine s) (f : Fork) (own : IsOwner f.name.tty) (rows : List (ℕ × (ByteAsked → ByteTurn))) (fit : RowsFit s w f rows) where
   made_whole : (q : NamedPages) → After s w q → IsWholeMachine (record s { pages = q })
   made_whole q h = filed_whole s w q s.files h.sound.whole h.sound.room h.filed h.keys h.given
 

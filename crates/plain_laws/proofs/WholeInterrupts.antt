@@ -35,7 +35,7 @@ use Rattle.plain_model.specs.Posting.{told_if}
 use Rattle.plain_model.specs.State.{PlainState}
 use Rattle.plain_model.specs.Trees.{next_serial, tree_of, with_body}
 use Rattle.plain_model.specs.TypeEvents.{channel_posted, posted_at}
-use Rattle.plain_model.specs.Unit.{in_command_mode, parts_of, stopped, taken_up, with_parts, with_stopped}
+use Rattle.plain_model.specs.Unit.{in_command_mode, parts_of, stopped, taken_up, with_parts}
 use Rattle.plain_model.proofs.Calling.{clock_called, clock_came, interrupt_came, interrupt_called}
 use Rattle.plain_model.proofs.Posted.{IsSame, posted_same}
 use Rattle.plain_laws.specs.Whole.{AreGiven, IsWholeMachine}
@@ -45,6 +45,7 @@ use Rattle.plain_laws.proofs.InterruptEnds.{interrupt_ends}
 use Rattle.plain_laws.proofs.WholeCommands.{Leaves}
 use Rattle.plain_laws.proofs.WholeForks.{changed_if, codes_whole, job_whole, keeps_whole, put, sound, told_whole}
 use Rattle.plain_laws.proofs.WholeJfns.{both_leave}
+use Rattle.plain_model.proofs.Shorthands.{with_stopped}
 
 posted_all_same : (f : Fork) (channels : List ℕ) → IsSame f (posted_all f channels)
 posted_all_same f [] = (refl, refl, refl)

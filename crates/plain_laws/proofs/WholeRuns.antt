@@ -28,10 +28,10 @@ use Rattle.machine_names.specs.declared.names.Kind.TheVariants.{Write}
 use Rattle.script_texts.specs.declared.status.ForkStatus.{ForkStatus}
 use Rattle.script_texts.specs.declared.status.ForkStatus.TheVariants.{Run as Running, Wait, Halted, Forced}
 use Rattle.plain_model.specs.Interrupts.{posted}
-use Rattle.plain_model.specs.Unit.{Effect, unit_ended, trapped, called, went, over, unit, unit_of, parts_of}
+use Rattle.plain_model.specs.Unit.{Effect, unit_ended, called, went, over, unit, unit_of, parts_of}
 use Rattle.plain_units.specs.Units.{unit_on}
 use Rattle.plain_model.specs.Calls.{Turn, fork_behind, out_of, posted_if, with_ac}
-use Rattle.plain_model.specs.ByteCalls.{ByteRows, byte_calls}
+use Rattle.plain_model.specs.ByteCalls.{byte_calls, ByteAsked, ByteTurn}
 use Rattle.plain_model.specs.StringCalls.{string_calls}
 use Rattle.plain_units.specs.Steps.{Planned, Ending, done, call, trap, need, stopped as unit_stopped, begun, pages_left}
 use Rattle.script_texts.specs.declared.event.Event.{Event}
@@ -44,9 +44,9 @@ use Rattle.plain_pages.specs.NewMaps.{with_map}
 use Rattle.machine_names.specs.declared.names.TheConstants.{MOST_FILES}
 use Rattle.plain_files.specs.Sizes.{new_file}
 use Rattle.plain_model.specs.FileEvents.{make_file, page_named}
-use Rattle.plain_model.specs.Events.{at_job, new_job, with_job, login, poked, poked_at, poke, start, word_seen, examined_in, outer}
+use Rattle.plain_model.specs.Events.{at_job, new_job, with_job, login, poked, poked_at, start, word_seen, examined_in, outer}
 use Rattle.script_texts.specs.Limits.{FitsEvent, FitsStep}
-use Rattle.plain_model.specs.Trees.{free_slot, is_free, next_serial, tree_of, next_name}
+use Rattle.plain_model.specs.Trees.{free_slot, next_serial, tree_of, next_name}
 use Rattle.plain_pages.specs.declared.map.MapEntry.TheVariants.{Follows}
 use Rattle.fork_tree.proofs.Kept.{none_tree}
 use Rattle.fork_tree.proofs.Slots.{in_none}
@@ -74,6 +74,7 @@ use Rattle.plain_model.proofs.Posted.{IsSame, posted_same}
 use Rattle.plain_model.proofs.Calling.{clock_called, clock_came, clock_turned, fork_came, fork_left, fork_called, fork_turned, interrupt_came, interrupt_called, interrupt_left, interrupt_turned, map_came, map_pages, map_turned, own_came, own_turned, none_turned, jfn_came, jfn_called, jfn_turned, byte_came, byte_called, byte_turned, MakesNone, caller_by, called_by, map_by, jfn_by, byte_by, own_by}
 use Rattle.plain_units.specs.declared.channel.TheConstants.{ILLEGAL_INSTRUCTION}
 use Rattle.std.proofs.lemmas.Cmp.{eq_by_cmp_equiv}
+use Rattle.plain_model.proofs.Shorthands.{is_free}
 
 -- the opening state is whole
 pub whole_opening : (limit : ℕ) → IsWholeMachine (opening limit)
@@ -106,7 +107,7 @@ module _ (s : PlainState) (w : IsWholeMachine s) (name : ForkName) (f : Fork) (t
   ended_whole_fork g Halted same = stopped_whole s w name f there (counted g) same
   ended_whole_fork g (Forced channel) same = stopped_whole s w name f there (counted g) same
 
-  trapped_whole : (channel : ℕ) → Leaves (trapped s f channel)
+  trapped_whole : (channel : ℕ) → Leaves (unit_ended s (posted f channel) (posted f channel).body.status)
   trapped_whole channel = ended_whole_fork (posted f channel) (posted f channel).body.status (posted_same f channel)
 
 module _ (s : PlainState) (w : IsWholeMachine s) (name : ForkName) (f : Fork) (there : map.get s.forks name ≡ Some f) where
@@ -144,7 +145,7 @@ module _ (s : PlainState) (w : IsWholeMachine s) (name : ForkName) (f : Fork) (t
       jfn_by Leaves s f number (λ g is. called_with (jfn_called s f number) whole g is (fork_behind g e) (behind_same g e)) whole
 
   -- so does a call on bytes, or on strings of them
-  byte_whole : (rows : ByteRows) → RowsFit s w f rows → (number : ℕ) → IsForkName name → Leaves (byte_turned s f rows number)
+  byte_whole : (rows : List (ℕ × (ByteAsked → ByteTurn))) → RowsFit s w f rows → (number : ℕ) → IsForkName name → Leaves (byte_turned s f rows number)
   byte_whole rows fit number fits =
       let e = (byte_came s f rows number).end in
       let whole = byte_called_whole s w f (own_terminal fits) rows fit number in
@@ -271,7 +272,7 @@ module _ (s : PlainState) (w : IsWholeMachine s) where
   job_effect : (t : Tty) (act : PlainJob → Effect) → ((j : PlainJob) → map.get s.jobs t.0 ≡ Some j → Leaves (act j)) → Leaves (at_job s t act)
   job_effect t act does = looked_up Leaves act _ (map.get s.jobs t.0) does (λ none. w)
 
-  poke_whole : (t : Tty) (address word : ℕ) → IsTerminal t → Leaves (poke s t address word)
+  poke_whole : (t : Tty) (address word : ℕ) → IsTerminal t → Leaves (at_job s t (poked_at s t address word))
   poke_whole t address word terminal = job_effect t (poked_at s t address word) (λ j is.
       let at = slot_at j.top address in
       cond_both (nat_lt address ACCUMULATORS) _ _ Leaves (λ low. changed_whole s w j.top (λ f. with_regs f (with_ac f.body.regs address word)) (λ f. (refl, refl, refl))) (λ high. poked_whole t terminal at (address % PAGE_WORDS) word (reference s.pages (in_map at) Write t) refl))

@@ -1,5 +1,5 @@
 -- What laws say of the commands of the monitor.
-use Rattle.std.specs.Prelude.{◌≡◌, ◌≢◌, ◌⊎◌, ◌<◌, ℕ, List, [], ◌∷◌, ◌++◌, true, None, Some}
+use Rattle.std.specs.Prelude.{◌≡◌, ◌≢◌, ◌⊎◌, ◌<◌, ℕ, List, [], ◌∷◌, ◌++◌, true, None, Some, false}
 use Rattle.std.specs.FinMap as map
 use Rattle.machine_names.specs.declared.character.TheConstants.{CARRIAGE_RETURN, LINE_FEED, PROMPT}
 use Rattle.machine_names.specs.declared.names.Access.{Access}
@@ -16,12 +16,16 @@ use Rattle.plain_pages.specs.Maps.{entry_at}
 use Rattle.plain_pages.specs.PlainPages.{NamedPages}
 use Rattle.plain_model.specs.declared.fork.Fork.{Fork}
 use Rattle.plain_model.specs.declared.fork.TerminalMode.TheVariants.{Command, Program}
-use Rattle.plain_model.specs.Commands.{begun_at, program_access, start_address, with_job_at, with_line_end}
+use Rattle.plain_model.specs.Commands.{begun_at, start_address, with_job_at, with_line_end}
 use Rattle.plain_model.specs.InterruptCalls.{living_codes}
 use Rattle.plain_model.specs.State.{PlainState, PlainJob}
 use Rattle.plain_model.specs.Unit.{Effect, printed}
 use Rattle.plain_laws.specs.MappedLaws.{KeepsPage}
 use Rattle.plain_laws.specs.TypeLaws.{HasJob, typed}
+
+-- what a program may do with a page of its file: read and execute it; a write makes a copy
+abbrev pub program_access : Access
+program_access = record { r = true; w = false; x = true; c = true }
 
 -- the line at a terminal in command mode is this command
 pub record IsCommand (s : PlainState) (t : Tty) (j : PlainJob) (c : ACommand) : Type 0 where

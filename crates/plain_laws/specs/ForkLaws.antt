@@ -16,9 +16,9 @@ use Rattle.plain_model.specs.State.{PlainState}
 use Rattle.plain_pages.specs.Room.{live, uses}
 use Rattle.plain_pages.specs.WholePages.{AreWhole}
 use Rattle.plain_units.specs.Steps.{call}
-use Rattle.plain_model.specs.Families.{came_of, forking}
 use Rattle.plain_model.specs.Unit.{called, parts_of, unit}
 use Rattle.plain_units.specs.Units.{unit_on}
+use Rattle.plain_model.specs.EachFamily.{came_of, forking}
 
 -- the end of a turn that waits for a fork
 abbrev pub waiting : End ForkChange

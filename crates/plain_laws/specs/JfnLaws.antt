@@ -13,7 +13,7 @@ use Rattle.plain_units.specs.Deeds.{in_ac, skip_pc}
 use Rattle.plain_model.specs.declared.call.TheConstants.{GTJFN}
 use Rattle.plain_model.specs.declared.call.End.TheVariants.{Done}
 use Rattle.plain_model.specs.declared.fork.Fork.{Fork}
-use Rattle.plain_model.specs.Calls.{ends, failed_regs, no_files, turn_on, with_ac, with_error}
+use Rattle.plain_model.specs.Calls.{ends, no_files, turn_on, with_ac, with_error, behind_call}
 use Rattle.plain_model.specs.Families.{Parts, Turned, call_turned}
 use Rattle.plain_model.specs.FileCalls.{held_at, with_held}
 use Rattle.plain_model.specs.Forks.{with_regs}
@@ -82,6 +82,6 @@ Takes s f n name q files = turn_of s f GTJFN ≡ record {
 abbrev pub Refuses : PlainState → Fork → ℕ → ℕ → Type 0
 Refuses s f number code = turn_of s f number ≡ record {
   parts = parts_of s;
-  caller = Some (with_error (with_regs f (failed_regs f.body.regs code)) code);
+  caller = Some (with_error (with_regs f (behind_call (with_ac f.body.regs 1 code))) code);
   out = None;
 }

@@ -1,6 +1,6 @@
 -- A call on bytes refers to no files but those of its JFNs.
 use Rattle.std.proofs.Common.{◌≡◌, ℕ, Bool, List, Option, None, Some, Result, Ok, Err, refl}
-use Rattle.std.specs.Prelude.{◌==◌, nat_le, nat_lt}
+use Rattle.std.specs.Prelude.{◌==◌, nat_le, nat_lt, if◌then◌else◌}
 use Rattle.std.specs.Option.{option_map_or}
 use Rattle.std.specs.FinMap as map
 use Rattle.std.proofs.lemmas.Bool.{cond_both}
@@ -16,7 +16,7 @@ use Rattle.plain_units.specs.Deeds.{in_ac}
 use Rattle.plain_model.specs.Calls.{reads, touches, ends, given, returning, with_ac}
 use Rattle.plain_model.specs.FileCalls.{skipping}
 use Rattle.plain_model.specs.MapCalls.{file_spot, is_read, is_written}
-use Rattle.plain_model.specs.ByteCalls.{ByteAsked, ByteTurn, at_end, bin, bout, by_number, byte_call, byte_offset, byte_page, end_for, file_for, given_or_fails, if_written, is_open, jfn_held, jfn_number, jfn_open, moving, next_byte, next_character, open_so, page_in, pbin, position_in, prints_byte, put_byte, rfptr, sfptr, sizef, takes_byte}
+use Rattle.plain_model.specs.ByteCalls.{ByteAsked, ByteTurn, at_end, bin, bout, by_number, byte_call, byte_offset, byte_page, end_for, file_for, given_or_fails, if_written, is_open, jfn_held, jfn_number, jfn_open, moving, next_byte, next_character, page_in, pbin, position_in, prints_byte, put_byte, rfptr, sfptr, sizef, takes_byte}
 use Rattle.plain_model.proofs.Turns.{Keeps, ends_any}
 use Rattle.plain_model.proofs.MapKeeps.{AllOk, then_ok}
 
@@ -44,7 +44,7 @@ module _ (There : List ℕ → Type 0) where
         by (Some j) is = held (jfn_number a) j is
 
     pub open_ok : (is_so : OpenFile → Bool) → AllOk ThereFor (jfn_open is_so a)
-    open_ok is_so = then_ok ThereFor ThereFor (jfn_held a) (open_so is_so) held_ok (λ j there. cond_both (is_so j) (Ok j) (Err NOT_OPEN) (AllOk ThereFor) (λ is. there) (λ no. tt))
+    open_ok is_so = then_ok ThereFor ThereFor (jfn_held a) (λ j. if is_so j then Ok j else Err NOT_OPEN) held_ok (λ j there. cond_both (is_so j) (Ok j) (Err NOT_OPEN) (AllOk ThereFor) (λ is. there) (λ no. tt))
 
     next_keeps : (j : OpenFile) → There j.file → KnowsFiles (next_byte a j)
     next_keeps j there = cond_both (nat_le (end_for a j) j.at) (ends (at_end a)) (reads (page_in j (byte_page j)) (byte_offset j) (λ w. ends (takes_byte a j w))) KnowsFiles (λ is. tt) (λ is. (there, λ w. tt))

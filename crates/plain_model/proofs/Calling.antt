@@ -1,6 +1,6 @@
 -- A turn of a call in the whole state, by its family: what it leaves with the fork that called.
 use Rattle.std.proofs.Common.{◌≡◌, ℕ, List, Option, None, Some, Result, Ok, Err, refl, sym, ◌∙◌, ap, subst, Ordering}
-use Rattle.std.specs.Prelude.{◌==◌, ◌%◌, ◌^◌}
+use Rattle.std.specs.Prelude.{◌==◌, ◌%◌, ◌^◌, slice_index}
 use Rattle.std.specs.Option.{option_map}
 use Rattle.std.specs.FinMap as map
 use Rattle.plain_model.specs.declared.call.TheConstants.{DISMS, GETER, PBOUT, RUNTM, TIME}
@@ -24,18 +24,19 @@ use Rattle.plain_model.specs.Forks.{ForkMap}
 use Rattle.plain_model.specs.State.{PlainState}
 use Rattle.machine_names.specs.Orders.{name_cmp}
 use Rattle.plain_model.specs.Interrupts.{posted}
-use Rattle.plain_model.specs.Calls.{Turn, ends, with_ac, no_files, Came, turn_on, given, numbered, returning, is_among, fork_behind, out_of, parts_behind, Asked}
+use Rattle.plain_model.specs.Calls.{Turn, ends, with_ac, no_files, Came, turn_on, given, numbered, returning, is_among, fork_behind, out_of, parts_behind, Asked, behind_call}
 use Rattle.plain_model.specs.MapCalls.{map_calls, map_changed}
 use Rattle.plain_model.specs.FileCalls.{FileParts, Jobs, file_call, file_calls, file_changed, geter, jfn_calls}
 use Rattle.plain_model.specs.ForkCalls.{own_named, fork_calls, fork_changed}
-use Rattle.plain_model.specs.ByteCalls.{ByteRows, byte_calls, byte_changed}
+use Rattle.plain_model.specs.ByteCalls.{byte_calls, byte_changed, ByteAsked, ByteTurn}
 use Rattle.plain_model.specs.StringCalls.{string_calls}
 use Rattle.plain_model.specs.InterruptCalls.{interrupt_calls, interrupt_changed}
 use Rattle.plain_model.specs.ClockCalls.{ClockAsked, clock_calls, clock_changed, disms, runtm, sleep_of, sleeping, time}
 use Rattle.plain_model.specs.Trees.{PlainTree, tree_of}
-use Rattle.plain_model.specs.Families.{Parts, sleeps_changed, timing, behind, asks, came_of, bytes_changed, codes_behind, on_bytes, forking, interrupting, mapping, opening, prints, own_changed, print_calls, forks_changed, interrupts_changed, pages_changed, jfns_changed}
+use Rattle.plain_model.specs.Families.{Parts, behind, asks, bytes_changed, codes_behind, print_calls, forks_changed, interrupts_changed, jfns_changed}
 use Rattle.plain_model.specs.Unit.{Effect, parts_of, with_parts, turned, called}
 use Rattle.std.proofs.lemmas.Bool.{cond_both}
+use Rattle.plain_model.specs.EachFamily.{came_of, forking, interrupting, timing, mapping, opening, on_bytes, own_changed, sleeps_changed, pages_changed}
 
 -- a turn of a fork call as it comes out, what it leaves but for the fork that called, and what it leaves
 abbrev pub fork_came : PlainState → Fork → ℕ → Came name_cmp ForkChange
@@ -106,16 +107,16 @@ abbrev pub jfn_turned : PlainState → Fork → ℕ → Effect
 jfn_turned s f number = turned s f.name.tty (behind (jfns_changed (λ name. name)) (parts_of s) f.name (jfn_came s f number))
 
 -- so of a call on bytes, or on strings of them, which changes these too
-abbrev pub byte_came : PlainState → Fork → ByteRows → ℕ → Came name_cmp ByteChange
+abbrev pub byte_came : PlainState → Fork → (List (ℕ × (ByteAsked → ByteTurn))) → ℕ → Came name_cmp ByteChange
 byte_came s f rows number = came_of (on_bytes (λ name. name) rows) (parts_of s) f.name f.body.regs number
 
-abbrev pub byte_left : PlainState → Fork → ByteRows → ℕ → FileParts name_cmp
+abbrev pub byte_left : PlainState → Fork → (List (ℕ × (ByteAsked → ByteTurn))) → ℕ → FileParts name_cmp
 byte_left s f rows number = let c = byte_came s f rows number in let old = filed_of (parts_of s) in parts_behind (byte_changed (λ name. name)) old (record old { pages = c.pages }) c.end
 
-abbrev pub byte_called : PlainState → Fork → ByteRows → ℕ → PlainState
+abbrev pub byte_called : PlainState → Fork → (List (ℕ × (ByteAsked → ByteTurn))) → ℕ → PlainState
 byte_called s f rows number = with_parts s (with_filed (parts_of s) (byte_left s f rows number))
 
-abbrev pub byte_turned : PlainState → Fork → ByteRows → ℕ → Effect
+abbrev pub byte_turned : PlainState → Fork → (List (ℕ × (ByteAsked → ByteTurn))) → ℕ → Effect
 byte_turned s f rows number = turned s f.name.tty (behind (bytes_changed (λ name. name)) (parts_of s) f.name (byte_came s f rows number))
 
 -- and of a turn that changes the fork that called alone
@@ -242,7 +243,7 @@ module _ {K : Type 0} {file_cmp : K → K → Ordering} where
     -- a call that prints makes none
     pub print_makes_none : (number : ℕ) (regs : Regs) → MakesNone (numbered print_calls number regs)
     unfolding turn_on
-    print_makes_none number regs = cond_both (PBOUT == number) (prints regs) _ MakesNone (λ is. refl) (λ n. refl)
+    print_makes_none number regs = cond_both (PBOUT == number) (ends (Done tt (behind_call regs) (Some (slice_index regs.ac 1 % 128)) None)) _ MakesNone (λ is. refl) (λ n. refl)
 
     -- nor one on files
     pub file_makes_none : (number : ℕ) (a : Asked) → MakesNone (file_call number a)
@@ -310,7 +311,7 @@ module _ (Holds : Effect → Type 0) (s : PlainState) (f : Fork) (number : ℕ) 
       Left left = Holds (turned s f.name.tty (record { parts = left; caller = option_map (λ g. fork_behind g (jfn_came s f number).end) (map.get left.tree.forks f.name); out = out_of (jfn_came s f number).end }))
 
   -- so does a call on bytes, or on strings of them
-  module _ (rows : ByteRows) where
+  module _ (rows : List (ℕ × (ByteAsked → ByteTurn))) where
     pub byte_by : ((g : Fork) → map.get s.forks f.name ≡ Some g → Holds (turned s f.name.tty (record { parts = with_filed (parts_of s) (byte_left s f rows number); caller = Some (fork_behind g (byte_came s f rows number).end); out = out_of (byte_came s f rows number).end })))
         → Holds (turned s f.name.tty (record { parts = with_filed (parts_of s) (byte_left s f rows number); caller = None; out = out_of (byte_came s f rows number).end })) → Holds (byte_turned s f rows number)
     byte_by some none = subst Left (sym (bytes_behind (λ name. name) (parts_of s) c.pages c.end)) (caller_by Holds s f.name.tty (with_filed (parts_of s) (byte_left s f rows number)) f.name (λ g. fork_behind g c.end) (out_of c.end) some none)

@@ -1,6 +1,6 @@
 -- What the definitions say that do not open by themselves, one equation each.
-use Rattle.std.proofs.Common.{◌≡◌, ℕ, List, [], ◌++◌, Some, refl, ◌∙◌, ap, cond, false}
-use Rattle.std.specs.Prelude.{take}
+use Rattle.std.proofs.Common.{◌≡◌, ℕ, List, [], ◌++◌, Some, refl, ◌∙◌, ap, cond, false, map}
+use Rattle.std.specs.Prelude.{take, ◌+◌}
 use Rattle.std.specs.Option.{option_map_or}
 use Rattle.std.specs.FinMap as map
 use Rattle.machine_names.specs.declared.names.Tty.{Tty}
@@ -15,8 +15,13 @@ use Rattle.plain_model.specs.Unit.{instruction_unit, interrupted_unit, over, uni
 use Rattle.plain_units.specs.Units.{unit_on}
 use Rattle.script_texts.specs.declared.event.WordRow.{WordRow}
 use Rattle.plain_model.specs.FileEvents.{make_file, write_words, show_page}
-use Rattle.plain_model.specs.Events.{login, type_in, poke, start, tick, examine, show_forks, outer}
+use Rattle.plain_model.specs.Events.{login, start, outer, at_job, poked_at}
 use Rattle.plain_model.specs.Run.{apply, unit_line}
+use Rattle.plain_model.specs.TypeEvents.{typed_all}
+use Rattle.script_texts.specs.declared.event.Item.TheVariants.{ForkLine}
+use Rattle.plain_model.specs.Forks.{forks_by_slot, fork_line}
+use Rattle.plain_model.specs.Trees.{sleepers_awoken}
+use Rattle.plain_model.proofs.Shorthands.{examine}
 
 module _ (s : PlainState) where
   -- a unit of a fork that lives
@@ -32,7 +37,7 @@ module _ (s : PlainState) where
   unfolding outer
   outer_login t user = refl
 
-  pub outer_type_in : (t : Tty) (text : List ℕ) → outer s (TypeIn t text) ≡ type_in s t text
+  pub outer_type_in : (t : Tty) (text : List ℕ) → outer s (TypeIn t text) ≡ at_job s t (λ j. typed_all s t text)
   unfolding outer
   outer_type_in t text = refl
 
@@ -48,7 +53,7 @@ module _ (s : PlainState) where
   unfolding outer
   outer_page name page = refl
 
-  pub outer_poke : (t : Tty) (address word : ℕ) → outer s (Poke t address word) ≡ poke s t address word
+  pub outer_poke : (t : Tty) (address word : ℕ) → outer s (Poke t address word) ≡ at_job s t (poked_at s t address word)
   unfolding outer
   outer_poke t address word = refl
 
@@ -56,7 +61,7 @@ module _ (s : PlainState) where
   unfolding outer
   outer_start t address = refl
 
-  pub outer_tick : outer s Tick ≡ tick s
+  pub outer_tick : outer s Tick ≡ (let clock = s.clock + 1 in record { state = record s { clock = clock; forks = sleepers_awoken clock s.forks }; items = [] })
   unfolding outer
   outer_tick = refl
 
@@ -64,7 +69,7 @@ module _ (s : PlainState) where
   unfolding outer
   outer_examine t serial address = refl
 
-  pub outer_forks : (t : Tty) → outer s (Forks t) ≡ show_forks s t
+  pub outer_forks : (t : Tty) → outer s (Forks t) ≡ at_job s t (λ j. record { state = s; items = map (λ f. ForkLine (fork_line s.forks f)) (forks_by_slot s.forks t) })
   unfolding outer
   outer_forks t = refl
 

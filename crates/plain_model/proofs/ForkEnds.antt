@@ -29,12 +29,13 @@ use Rattle.plain_model.specs.Inferiors.{is_inferior}
 use Rattle.plain_model.specs.Trees.{next_name, next_serial, free_slot}
 use Rattle.plain_model.specs.Calls.{Turn, adds, ends, and_then, given, with_block, no_files, turn_on, Asked}
 use Rattle.plain_units.specs.Blocks.{steps_on, block_steps}
-use Rattle.plain_model.specs.ForkCalls.{address_named, fork_named, if_inferior, inferior_named, own_named, map_wanted, making, with_accumulators, making_in, cfork, of_inferior, rfsts, sfacs, rfacs, waits_for, wfork, fork_call}
+use Rattle.plain_model.specs.ForkCalls.{address_named, fork_named, if_inferior, inferior_named, own_named, map_wanted, making, with_accumulators, making_in, of_inferior, sfacs, rfacs, fork_call}
 use Rattle.plain_units.proofs.PageRuns.{AreSound, Keeps, PlanLeaves, kept_itself, run_kept}
 use Rattle.plain_units.proofs.Lookups.{looked_up}
 use Rattle.plain_pages.proofs.Whole.{map_whole}
 use Rattle.plain_pages.proofs.ReferencesMade.{has_room}
 use Rattle.plain_model.proofs.Turns.{takes_comes, adds_comes}
+use Rattle.plain_model.proofs.Shorthands.{waits_for}
 
 -- a fork that is an inferior of the caller
 abbrev pub IsBelow : Asked → ForkName → Type 0
@@ -157,10 +158,10 @@ module _ {K : Type 0} {file_cmp : K → K → Ordering} (a : Asked) (p : PlainPa
   making_ends slot free = cond_both (nat_lt LAST_SERIAL (next_serial a.tree a.who.tty)) (ends (Failed SERIALS_OUT)) (adds (next_name a.tree a.who.tty) (map_wanted a) (added slot)) Ends
       (λ out. over p (Failed SERIALS_OUT) tt) (λ few. adding_ends slot free few)
 
-  cfork_ends : Ends (cfork a)
+  cfork_ends : Ends (fork_call CFORK a)
   cfork_ends = looked_up Ends (making_in a) (ends (Failed FORKS_FULL)) (free_slot a.tree.forks a.who.tty) making_ends (λ none. over p (Failed FORKS_FULL) tt)
 
-  rfsts_ends : Ends (rfsts a)
+  rfsts_ends : Ends (fork_call RFSTS a)
   rfsts_ends = given_ends (own_named a) _ (λ f is. over p _ same)
 
   sfacs_ends : Ends (sfacs a)
@@ -169,7 +170,7 @@ module _ {K : Type 0} {file_cmp : K → K → Ordering} (a : Asked) (p : PlainPa
   rfacs_ends : Ends (rfacs a)
   rfacs_ends = below_ends _ (λ f below. block_ends (address_named a.regs) Write _ (λ q words kept. over q _ (refl, kept)))
 
-  wfork_ends : Ends (wfork a)
+  wfork_ends : Ends (fork_call WFORK a)
   wfork_ends = below_ends _ (λ f below. over p _ (waits_end f.body.status))
 
   -- the turn of a fork call

@@ -22,3 +22,4 @@ pub mod RefiledBytes
 pub mod RefiledCalls
 pub mod JfnEnds
 pub mod JfnChanges
+pub mod Shorthands

@@ -17,7 +17,7 @@ use Rattle.plain_pages.proofs.Kept.{drop_all_leaves, same_pages, total_remove}
 use Rattle.plain_pages.proofs.Makings.{uses_objects}
 use Rattle.plain_pages.proofs.Refiled.{NameAlike, uses_refiled}
 use Rattle.plain_pages.proofs.Whole.{map_uses, uses_are}
-use Rattle.plain_model.specs.ForkCalls.{still_named, without_maps}
+use Rattle.plain_model.specs.ForkCalls.{without_maps}
 use Rattle.plain_model.proofs.Dropped.{drop_all_objects}
 use Rattle.plain_model.proofs.ForkMaps.{cases_name, get_gone, get_gone_other, gone_itself, names_same, same_forks, same_itself}
 
@@ -92,7 +92,7 @@ module _ {K : Type 0} {file_cmp : K → K → Ordering} where
   left_uses p goes n = omega (arith, uses_are (maps_left p goes) n, uses_are p n, values_split fork_cmp (map_uses n) fork_cmp_total fork_cmp_apart p.maps goes)
 
   -- the words of those that keep a name
-  pub still_words : (old new : PlainPages file_cmp) (n : PageName) → map.get (still_named old new).objects n ≡ cond (stays (uses old n) (uses new n)) (map.get new.objects n) None
+  pub still_words : (old new : PlainPages file_cmp) (n : PageName) → map.get (map.retain_keys new.objects (λ m. stays (uses old m) (uses new m))) n ≡ cond (stays (uses old n) (uses new n)) (map.get new.objects n) None
   still_words old new n = map.get-retain_keys new.objects (λ x. stays (uses old x) (uses new x)) n (λ x tied. ap (λ y. stays (uses old y) (uses new y)) (sym (page_cmp_apart n x tied)))
 
   pub gone_words : (p : PlainPages file_cmp) (goes : ForkName → Bool) (n : PageName) → map.get (without_maps p goes).objects n ≡ cond (stays (uses p n) (uses (maps_left p goes) n)) (map.get p.objects n) None

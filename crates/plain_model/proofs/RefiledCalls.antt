@@ -43,9 +43,9 @@ use Rattle.plain_model.specs.Calls.{Sight, Turn, no_files, turn_on, Came, number
 use Rattle.plain_model.specs.MapCalls.{entry_for, keyed, map_calls, map_changed}
 use Rattle.plain_model.specs.FileCalls.{file_calls, deleted, file_changed, files_opened, held_at, jfn_calls, opened}
 use Rattle.plain_model.specs.ForkCalls.{ForkParts, fork_calls}
-use Rattle.plain_model.specs.ByteCalls.{ByteAsked, ByteRows, byte_calls, byte_changed, byte_page, files_reaching, input_at, pages_of, written}
+use Rattle.plain_model.specs.ByteCalls.{ByteAsked, byte_calls, byte_changed, byte_page, files_reaching, input_at, pages_of, written, ByteTurn}
 use Rattle.plain_model.specs.StringCalls.{string_calls}
-use Rattle.plain_model.specs.Families.{asks_clock, codes_behind, interrupts_changed, sleeps_changed, Parts, Turned, behind, call_turned, print_calls, own_changed, asks, asks_bytes, asks_jfns, asks_maps, bytes_changed, files_seen, names_seen, forks_changed, pages_changed, jfns_changed}
+use Rattle.plain_model.specs.Families.{asks_clock, codes_behind, interrupts_changed, Parts, Turned, behind, print_calls, asks, asks_bytes, asks_jfns, asks_maps, bytes_changed, files_seen, names_seen, forks_changed, jfns_changed, call_turned}
 use Rattle.machine_names.proofs.OrderLemmas.{name_cmp_apart}
 use Rattle.plain_pages.proofs.Refiled.{NameAlike}
 use Rattle.plain_pages.proofs.FilesKept.{without_files}
@@ -60,6 +60,7 @@ use Rattle.plain_model.proofs.RefiledPages.{other_set, put_keyed, put_refiled}
 use Rattle.plain_model.proofs.MapKeeps.{KeepsFiles, OfFiles, map_keeps}
 use Rattle.plain_model.proofs.ForkTurns.{change_refiled, changed_leaves as fork_leaves}
 use Rattle.plain_model.proofs.MapTurns.{changed_leaves as entry_leaves, changed_refiled}
+use Rattle.plain_model.specs.EachFamily.{own_changed, sleeps_changed, pages_changed}
 
 -- a file of a name is there
 abbrev pub IsThere : {K : Type 0} {file_cmp : K → K → Ordering} → Parts file_cmp → List ℕ → Type 0
@@ -403,7 +404,7 @@ module _ {K L : Type 0} {file_cmp : K → K → Ordering} {other_cmp : L → L �
     asked_same regs = ap (λ (n : List ℕ → ℕ). record { who = who; regs = regs; held = held_at v.jobs who.tty; input = input_at v.jobs who.tty; files = v.files; pages = n }) (fun_ext pages_same)
 
     -- calls that are asked with bytes, and know the files of JFNs
-    module _ (rows : ByteRows) (regs : Regs) (number : ℕ) where
+    module _ (rows : List (ℕ × (ByteAsked → ByteTurn))) (regs : Regs) (number : ℕ) where
       byte_turns : AreHeld v → KnowsFiles (IsThere v) (numbered rows number (asks_bytes key v who regs))
           → Turns (behind (bytes_changed key) v who (turn_on (files_seen key v who) v.pages (numbered rows number (asks_bytes key v who regs))))
           (behind (bytes_changed other_key) (renewed v) who (turn_on (files_seen other_key (renewed v) who) (renewed v).pages (numbered rows number (asks_bytes other_key (renewed v) who regs))))

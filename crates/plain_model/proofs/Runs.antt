@@ -30,3 +30,14 @@ IsLegal-push flat auto s (g ∷ es) e xs ys f o l a =
 pub legal_flat : (auto : Bool) (s : PlainState) (es : List Event) (xs : List Step) (f : Follows es xs) → IsLegal true auto s es xs f → AreLegal true s xs
 legal_flat auto s [] xs f l = subst (AreLegal true s) (sym f) tt
 legal_flat auto s (e ∷ es) xs f l = subst (AreLegal true s) (sym f.2) (AreLegal-append true s f.0 f.1 l.0 (legal_flat (auto_after auto e) (state_after s f.0) es f.1 f.4 l.1))
+
+-- and apart again
+AreLegal-split : (auto : Bool) (s : PlainState) (xs ys : List Step) → AreLegal auto s (xs ++ ys) → AreLegal auto s xs × AreLegal auto (state_after s xs) ys
+AreLegal-split auto s [] ys l = (tt, l)
+AreLegal-split auto s (x ∷ xs) ys l = let rest = AreLegal-split auto (apply s x).state xs ys l.1 in ((l.0, rest.0), rest.1)
+
+pub legal_apart : (auto : Bool) (s : PlainState) (es : List Event) (xs : List Step) (f : Follows es xs) → AreLegal true s xs → IsLegal true auto s es xs f
+legal_apart auto s [] xs f l = tt
+legal_apart auto s (e ∷ es) xs f l =
+    let parts = AreLegal-split true s f.0 f.1 (subst (AreLegal true s) f.2 l) in
+    (parts.0, legal_apart (auto_after auto e) (state_after s f.0) es f.1 f.4 parts.1)

@@ -43,10 +43,6 @@ pub record ByteAsked : Type 0 where
 abbrev pub ByteTurn : Type 0
 ByteTurn = Turn (List ℕ) ByteChange
 
--- calls that are asked with this, by their numbers
-abbrev pub ByteRows : Type 0
-ByteRows = List (ℕ × (ByteAsked → ByteTurn))
-
 -- the number of the JFN that accumulator 1 names
 abbrev pub jfn_number : ByteAsked → ℕ
 jfn_number a = right (in_ac a.regs 1)
@@ -78,11 +74,8 @@ abbrev pub jfn_held : ByteAsked → Result OpenFile ℕ
 jfn_held a = option_map_or Ok (map.get a.held (jfn_number a)) (Err NO_JFN)
 
 -- the same, where its file is open so
-abbrev pub open_so : (OpenFile → Bool) → OpenFile → Result OpenFile ℕ
-open_so is_so j = if is_so j then Ok j else Err NOT_OPEN
-
 abbrev pub jfn_open : (OpenFile → Bool) → ByteAsked → Result OpenFile ℕ
-jfn_open is_so a = and_then (jfn_held a) (open_so is_so)
+jfn_open is_so a = and_then (jfn_held a) (λ j. if is_so j then Ok j else Err NOT_OPEN)
 
 -- a call with two returns: it ends so with what was named, or fails
 abbrev pub given_or_fails : {A : Type 0} → Result A ℕ → (A → End ByteChange) → ByteTurn
@@ -132,7 +125,8 @@ page_in j page = record { file = j.file; page = page }
 
 -- the next byte of a file is read
 abbrev pub next_byte : ByteAsked → OpenFile → ByteTurn
-next_byte a j = if nat_le (end_for a j) j.at then ends (at_end a) else reads (page_in j (byte_page j)) (byte_offset j) (λ w. ends (takes_byte a j w))
+next_byte a j = if nat_le (end_for a j) j.at then ends (Done Nothing (behind_call (with_ac a.regs 2 0)) None (Some END_OF_FILE))
+    else reads (page_in j (byte_page j)) (byte_offset j) (λ w. ends (takes_byte a j w))
 
 -- a call by the number of a JFN: that of the terminal's input, of its output, or of a file
 abbrev pub by_number : {A : Type 0} → ℕ → A → A → A → A
@@ -161,7 +155,7 @@ abbrev pub bout : ByteAsked → ByteTurn
 bout a = by_number (jfn_number a) (ends (Refused NOT_OPEN)) (ends (prints_byte a)) (given (jfn_open is_written a) (put_byte a))
 
 -- the calls on bytes by their numbers
-abbrev pub byte_calls : ByteRows
+abbrev pub byte_calls : List (ℕ × (ByteAsked → ByteTurn))
 byte_calls = (SFPTR, sfptr) ∷ (SIZEF, sizef) ∷ (RFPTR, rfptr) ∷ (BIN, bin) ∷ (BOUT, bout) ∷ (PBIN, pbin) ∷ []
 
 -- a turn of a call on bytes by its number
@@ -183,7 +177,7 @@ behind_first (c ∷ cs) = cs
 
 -- the JFNs of a job with one of them, which is held, at another byte
 abbrev pub with_position : ℕ → ℕ → OpenFiles → OpenFiles
-with_position n at m = option_map_or (λ j. map.insert m n (moved_file at j)) (map.get m n) m
+with_position n at m = option_map_or (λ j. map.insert m n (record j { at = at })) (map.get m n) m
 
 -- the files, where one that is there has bytes of a size, and reaches at least to an end
 abbrev pub files_reaching : map.FinMap name_cmp PlainFile → List ℕ → ℕ → ℕ → map.FinMap name_cmp PlainFile

@@ -153,12 +153,12 @@ module _ {K : Type 0} {file_cmp : K → K → Ordering} where
 
   -- how a turn comes out that is told of these pages
   unfoldable pub turn_on : {F C : Type 0} → Sight F K → PlainPages file_cmp → Turn F C → Came file_cmp C
-  turn_on sight p (sees s next) = turn_on sight p (next (entry_of p s))
+  turn_on sight p (sees s next) = turn_on sight p (next (unwrap_or (entry_at p.maps s) Empty))
   turn_on sight p (finds at next) = turn_on sight p (next (option_and_then (page_at p) (spot_of sight at)))
   turn_on sight p (reads f offset next) = turn_on sight p (next (option_map_or (λ at. word_at p at offset) (spot_of sight (in_file f)) 0))
   turn_on sight p (touches owner at kind next) = touched p (option_map_or (λ s. reference p s kind owner) (spot_of sight at) (denied kind)) (λ q what. turn_on sight q (next what))
   turn_on sight p (takes f regs steps next) = stepped f (steps_on f regs steps p) (λ q e. turn_on sight q (next e)) (λ channel. record { end = Trap channel; pages = p })
-  turn_on sight p (adds f entries next) = let room = HasRoom (with_map p f entries) f.tty in turn_on sight (with_added p f entries room) (next room)
+  turn_on sight p (adds f entries next) = let q = with_map p f entries in let room = HasRoom q f.tty in turn_on sight (if room then q else p) (next room)
   turn_on sight p (looks name next) = turn_on sight p (next (sight.is_name name))
   turn_on sight p (makes name next) = turn_on sight p (next sight.has_more)
   turn_on sight p (ends e) = record { end = e; pages = p }
@@ -166,10 +166,6 @@ module _ {K : Type 0} {file_cmp : K → K → Ordering} where
 -- the last error of a fork
 abbrev pub with_error : Fork → ℕ → Fork
 with_error f code = record f { body = record f.body { error = code } }
-
--- the registers behind a call with two returns that is refused: it returns by the first, with the code in accumulator 1
-abbrev pub failed_regs : Regs → ℕ → Regs
-failed_regs regs code = behind_call (with_ac regs 1 code)
 
 -- a fork with a channel posted, if one is
 abbrev pub posted_if : Fork → Option ℕ → Fork
@@ -180,13 +176,13 @@ abbrev pub with_wait : Fork → WaitOn → Fork
 with_wait f (on.Sleep moment) = record f { body = record f.body { status = Wait (on.Sleep moment); sleep = Some moment } }
 with_wait f what = with_status f (Wait what)
 
--- the fork that called, behind a turn but for its count of units: a refused call leaves its error, and traps where it has one return;
--- who waits stays on the call
+-- the fork that called, behind a turn but for its count of units: a refused call leaves its error, and traps where it has one return,
+-- or returns by the first of two, with the code in accumulator 1; who waits stays on the call
 unfoldable pub fork_behind : {C : Type 0} → Fork → End C → Fork
 fork_behind f (Done change regs out post) = posted_if (with_regs f regs) post
 fork_behind f (Waits what) = with_wait f what
 fork_behind f Halts = with_status (with_regs f (behind_call f.body.regs)) Halted
-fork_behind f (Failed code) = with_error (with_regs f (failed_regs f.body.regs code)) code
+fork_behind f (Failed code) = with_error (with_regs f (behind_call (with_ac f.body.regs 1 code))) code
 fork_behind f (Refused code) = posted (with_error f code) ILLEGAL_INSTRUCTION
 fork_behind f (Trap channel) = posted f channel
 

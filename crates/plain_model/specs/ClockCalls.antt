@@ -19,16 +19,12 @@ pub record ClockAsked : Type 0 where
   pub call : Asked
   pub clock : ℕ
 
--- a turn of these calls
-abbrev pub ClockTurn : Type 0
-ClockTurn = Turn ⊥ SleepChange
-
 -- TIME: how many ticks there were, as far as a word tells it, and how many of these units a tick has
-abbrev pub time : ClockAsked → ClockTurn
+abbrev pub time : ClockAsked → Turn ⊥ SleepChange
 time a = ends (returning Nothing (with_ac (with_ac a.call.regs 1 (a.clock % 2 ^ 36)) 2 UNITS_A_TICK))
 
 -- RUNTM: how many units the caller or an inferior has run, as far as a word tells it
-abbrev pub runtm : ClockAsked → ClockTurn
+abbrev pub runtm : ClockAsked → Turn ⊥ SleepChange
 runtm a = given (own_named a.call) (λ f. ends (returning Nothing (with_ac a.call.regs 1 (f.body.units % 2 ^ 36))))
 
 -- to which moment the caller sleeps
@@ -41,11 +37,11 @@ sleeping a None = Waits (on.Sleep (a.clock + in_ac a.call.regs 1))
 sleeping a (Some moment) = if nat_le moment a.clock then returning (Awakes a.call.who) a.call.regs else Waits (on.Sleep moment)
 
 -- DISMS: the caller sleeps for so many ticks; for none it goes on
-abbrev pub disms : ClockAsked → ClockTurn
+abbrev pub disms : ClockAsked → Turn ⊥ SleepChange
 disms a = if in_ac a.call.regs 1 == 0 then ends (returning Nothing a.call.regs) else ends (sleeping a (sleep_of a.call))
 
 -- the calls on the clock by their numbers
-abbrev pub clock_calls : List (ℕ × (ClockAsked → ClockTurn))
+abbrev pub clock_calls : List (ℕ × (ClockAsked → Turn ⊥ SleepChange))
 clock_calls = (TIME, time) ∷ (RUNTM, runtm) ∷ (DISMS, disms) ∷ []
 
 -- a fork that sleeps no more
@@ -55,4 +51,4 @@ without_moment f = record f { body = record f.body { sleep = None } }
 -- what a change of one of these calls leaves of the forks
 unfoldable pub clock_changed : SleepChange → PlainTree → PlainTree
 clock_changed Nothing tree = tree
-clock_changed (Awakes f) tree = with_changed_of tree f without_moment
+clock_changed (Awakes f) tree = with_changed_of tree f (λ k. record k { body = record k.body { sleep = None } })

@@ -92,13 +92,9 @@ go_on s t j = option_map_or (continued s t j) (map.get s.forks j.top) (prompted 
 
 -- ---- RUN
 
--- what a program may do with a page of its file: read and execute it; a write makes a copy
-abbrev pub program_access : Access
-program_access = record { r = true; w = false; x = true; c = true }
-
--- an entry that names the page of a program, where its file has it
+-- an entry that names the page of a program, where its file has it, to be read and executed; a write makes a copy
 abbrev pub program_entry : Option PageName → MapEntry
-program_entry page = option_map_or (λ n. Names n program_access) page Empty
+program_entry page = option_map_or (λ n. Names n (record { r = true; w = false; x = true; c = true })) page Empty
 
 module _ {K : Type 0} {file_cmp : K → K → Ordering} where
   -- the pages with one page of a fork's map as a program has it that is in a file
@@ -110,13 +106,12 @@ module _ {K : Type 0} {file_cmp : K → K → Ordering} where
   with_program zero p f file = p
   with_program (suc page) p f file = with_program_page (with_program page p f file) f file page
 
--- a fork that begins a program at an address: nothing is in its accumulators, it has no flags, its interrupts are at rest, and it doesn't
--- sleep
-abbrev pub with_program_body : ℕ → Body → Body
-with_program_body address body = record body { status = Running; regs = record first_regs { pc = address }; psi = psi_at_rest; sleep = None }
-
+-- a fork that begins a program at an address: nothing is in its accumulators, it has no flags and no freeze mark, its interrupts are at
+-- rest, and it doesn't sleep
 abbrev pub begun_at : ℕ → Fork → Fork
-begun_at address f = with_mark false (with_body (with_program_body address f.body) f)
+begun_at address f =
+    let begun = record f.body { status = Running; regs = record first_regs { pc = address }; psi = psi_at_rest; sleep = None } in
+    record f { frozen = false; body = begun }
 
 -- a fork without its inferiors, which begins the program in a file at an address
 abbrev pub with_program_run : {K : Type 0} {file_cmp : K → K → Ordering} → ForkParts file_cmp → ForkName → K → ℕ → ForkParts file_cmp
@@ -157,10 +152,6 @@ directory_prefix user = 60 ∷ (user ++ 62 ∷ [])
 abbrev pub file_line : List ℕ → List ℕ → List ℕ
 file_line user name = if starts_with nat_eq name (directory_prefix user) then with_line_end (32 ∷ drop (length (directory_prefix user)) name) else []
 
--- DIRECTORY: the files of the user's directory, in the order of their names
-abbrev pub list_directory : PlainState → Tty → PlainJob → Effect
-list_directory s t j = prompted s t (flat_map (file_line j.user) (map.keys s.files))
-
 -- DELETE: a file is removed, with the names that its pages have there; it is refused where there is no such file, or where a JFN stands
 -- for it
 abbrev pub delete_file : PlainState → Tty → List ℕ → Effect
@@ -177,13 +168,14 @@ logged_out s t j = record (with_forks_and_pages s (killed (forks_and_pages s) j.
 
 -- ---- all
 
--- what a command of a terminal's job does and prints; the line that it was is no longer in the job
+-- what a command of a terminal's job does and prints; the line that it was is no longer in the job. CONTINUE: the top fork goes on where it
+-- stands. DIRECTORY: the files of the user's directory, in the order of their names.
 unfoldable pub commanded : PlainState → Tty → PlainJob → Command → Effect
 commanded s t j command.Blank = prompted s t []
 commanded s t j (command.Run name) = run_program s t j name
 commanded s t j command.Start = start_again s t j
-commanded s t j command.Continue = go_on s t j
-commanded s t j command.Directory = list_directory s t j
+commanded s t j command.Continue = option_map_or (continued s t j) (map.get s.forks j.top) (prompted s t [])
+commanded s t j command.Directory = prompted s t (flat_map (file_line j.user) (map.keys s.files))
 commanded s t j (command.Delete name) = delete_file s t name
 commanded s t j command.Logout = record { state = logged_out s t j; items = [] }
 commanded s t j command.Unknown = told s t (codes "?")

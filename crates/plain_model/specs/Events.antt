@@ -52,10 +52,6 @@ login s t user =
     else (if HasRoom (with_map s.pages (next_name (tree_of s) t) EmptyMap) t then record { state = with_job s t user; items = Char t PROMPT ∷ [] }
     else refused s (Full t)))
 
--- TYPE: the characters of a text are typed at the terminal, one after another
-abbrev pub type_in : PlainState → Tty → List ℕ → Effect
-type_in s t text = at_job s t (λ j. typed_all s t text)
-
 -- a word put into a slot's page, where a write is granted
 abbrev pub poked : PlainState → Tty → Slot → ℕ → ℕ → Referred name_cmp → Effect
 poked s t slot offset word (granted p) = record { state = record s { pages = stored p (in_map slot) offset word }; items = [] }
@@ -67,10 +63,6 @@ abbrev pub poked_at : PlainState → Tty → ℕ → ℕ → PlainJob → Effect
 poked_at s t address word j =
     if nat_lt address ACCUMULATORS then record { state = change_fork s j.top (λ f. with_regs f (with_ac f.body.regs address word)); items = [] }
     else (let slot = slot_at j.top address in poked s t slot (address % PAGE_WORDS) word (reference s.pages (in_map slot) Write t))
-
--- POKE: a write of the top fork, by its access; low addresses are its accumulators
-abbrev pub poke : PlainState → Tty → ℕ → ℕ → Effect
-poke s t address word = at_job s t (poked_at s t address word)
 
 -- START: the top fork runs at the address, with no freeze mark, in program mode
 abbrev pub start : PlainState → Tty → ℕ → Effect
@@ -86,33 +78,21 @@ word_seen s f address =
 abbrev pub examined_in : PlainState → Tty → ℕ → ℕ → Fork → Effect
 examined_in s t serial address f = option_map_or (λ word. record { state = s; items = Examined t serial address word ∷ [] }) (word_seen s f address) (refused s (NoPage t))
 
--- EXAMINE: the word at an address of one of the job's forks; nothing is made
-abbrev pub examine : PlainState → Tty → ℕ → ℕ → Effect
-examine s t serial address = at_job s t (λ j. option_map_or (examined_in s t serial address) (map.get s.forks (record { tty = t; serial = serial })) (refused s (NoFork t)))
-
--- FORKS: a job's forks by slot
-abbrev pub show_forks : PlainState → Tty → Effect
-show_forks s t = at_job s t (λ j. record { state = s; items = map (λ f. ForkLine (fork_line s.forks f)) (forks_by_slot s.forks t) })
-
--- TICK: the clock goes on by one, and each sleeper whose moment it reaches runs again
-abbrev pub tick : PlainState → Effect
-tick s = let clock = s.clock + 1 in record { state = record s { clock = clock; forks = sleepers_awoken clock s.forks }; items = [] }
-
--- TRACE: whether each unit is shown
-abbrev pub traced : PlainState → Bool → Effect
-traced s on = record { state = record s { trace = on }; items = [] }
-
--- an event as one step; those that are none change nothing
+-- An event as one step; those that are none change nothing. TYPE: the characters of a text are typed at the terminal, one after another.
+-- POKE: a write of the top fork, by its access; low addresses are its accumulators. TICK: the clock goes on by one, and each sleeper whose
+-- moment it reaches runs again. EXAMINE: the word at an address of one of the job's forks; nothing is made. FORKS: a job's forks by slot.
+-- TRACE: whether each unit is shown.
 unfoldable pub outer : PlainState → Event → Effect
 outer s (Login t user) = login s t user
-outer s (TypeIn t text) = type_in s t text
+outer s (TypeIn t text) = at_job s t (λ j. typed_all s t text)
 outer s (File name) = make_file s name
 outer s (Words name page offset row) = write_words s name page offset (take row.count row.words)
-outer s (Poke t address word) = poke s t address word
+outer s (Poke t address word) = at_job s t (poked_at s t address word)
 outer s (Start t address) = start s t address
-outer s Tick = tick s
-outer s (Examine t serial address) = examine s t serial address
-outer s (Forks t) = show_forks s t
+outer s Tick = let clock = s.clock + 1 in record { state = record s { clock = clock; forks = sleepers_awoken clock s.forks }; items = [] }
+outer s (Examine t serial address) =
+    at_job s t (λ j. option_map_or (examined_in s t serial address) (map.get s.forks (record { tty = t; serial = serial })) (refused s (NoFork t)))
+outer s (Forks t) = at_job s t (λ j. record { state = s; items = map (λ f. ForkLine (fork_line s.forks f)) (forks_by_slot s.forks t) })
 outer s (Page name page) = show_page s name page
-outer s (Trace on) = traced s on
+outer s (Trace on) = record { state = record s { trace = on }; items = [] }
 outer s e = record { state = s; items = [] }

@@ -29,16 +29,12 @@ use Rattle.plain_model.specs.ForkCalls.{fork_calls, fork_changed}
 use Rattle.plain_model.specs.Forks.{ForkMap}
 use Rattle.plain_model.specs.InterruptCalls.{interrupt_calls, interrupt_changed, living_codes, with_codes_of}
 use Rattle.plain_model.specs.ClockCalls.{ClockAsked, clock_calls, clock_changed}
-use Rattle.plain_model.specs.ByteCalls.{ByteAsked, ByteRows, byte_calls, byte_changed, input_at, pages_of}
+use Rattle.plain_model.specs.ByteCalls.{ByteAsked, byte_calls, byte_changed, input_at, pages_of}
 use Rattle.plain_model.specs.StringCalls.{string_calls}
 
--- PBOUT prints the low 7 bits of accumulator 1
-abbrev pub prints : Regs → Turn ⊥ (Unit {0})
-prints regs = ends (Done tt (behind_call regs) (Some (slice_index regs.ac 1 % 128)) None)
-
--- the calls that print by their numbers
+-- the call that prints, by its number: PBOUT prints the low 7 bits of accumulator 1
 abbrev pub print_calls : List (ℕ × (Regs → Turn ⊥ (Unit {0})))
-print_calls = (PBOUT, prints) ∷ []
+print_calls = (PBOUT, λ regs. ends (Done tt (behind_call regs) (Some (slice_index regs.ac 1 % 128)) None)) ∷ []
 
 -- what monitor calls see and change, whatever pages of files are known by: the forks, the pages, the files, and the jobs; and the clock, which
 -- none changes
@@ -49,24 +45,11 @@ pub record Parts {K : Type 0} (file_cmp : K → K → Ordering) : Type 0 where
   pub jobs : Jobs
   pub clock : ℕ
 
--- A family of calls: the calls by their numbers, what they are asked with, what they are told of files, and what their changes
--- leave of the parts.
-pub record Family {K : Type 0} (file_cmp : K → K → Ordering) (F A C : Type 0) : Type 0 where
-  pub calls : List (ℕ × (A → Turn F C))
-  pub asked : Parts file_cmp → ForkName → Regs → A
-  pub sight : Parts file_cmp → ForkName → Sight F K
-  pub changed : C → Parts file_cmp → Parts file_cmp
-
 -- what is behind a turn: the parts, the fork that called as it is to be put among them but for its count of units, and what is printed
 pub record Turned {K : Type 0} (file_cmp : K → K → Ordering) : Type 0 where
   pub parts : Parts file_cmp
   pub caller : Option Fork
   pub out : Option ℕ
-
--- a family as whoever makes a call sees it: which numbers are its own, and what is behind a turn
-pub record Offer {K : Type 0} (file_cmp : K → K → Ordering) : Type 0 where
-  pub has : ℕ → Bool
-  pub turned : Parts file_cmp → ForkName → Regs → ℕ → Turned file_cmp
 
 -- what a fork call changes of the jobs: where forks are killed, their codes are assigned to nothing
 abbrev pub codes_behind : ForkChange → ForkMap → Jobs → Jobs
@@ -80,29 +63,12 @@ module _ {K : Type 0} {file_cmp : K → K → Ordering} where
       let left = parts_behind changed v (record v { pages = came.pages }) came.end in
       record { parts = left; caller = option_map (λ f. fork_behind f came.end) (map.get left.tree.forks who); out = out_of came.end }
 
-  -- the turn of a call of a family by its number, as it comes out
-  abbrev pub came_of : {F A C : Type 0} → Family file_cmp F A C → Parts file_cmp → ForkName → Regs → ℕ → Came file_cmp C
-  came_of family v who regs number = turn_on (family.sight v who) v.pages (numbered family.calls number (family.asked v who regs))
-
-  -- a family, offered
-  abbrev pub offered : {F A C : Type 0} → Family file_cmp F A C → Offer file_cmp
-  offered family = record {
-    has = is_among family.calls;
-    turned = λ v who regs number. behind family.changed v who (came_of family v who regs number);
-  }
-
-  -- a turn of the first of some families that has the number; a number that none has traps
-  abbrev pub first_turned : List (Offer file_cmp) → Parts file_cmp → ForkName → Regs → ℕ → Turned file_cmp
-  first_turned [] v who regs number = record { parts = v; caller = option_map (λ f. posted f ILLEGAL_INSTRUCTION) (map.get v.tree.forks who); out = None }
-  first_turned (o ∷ os) v who regs number = if o.has number then o.turned v who regs number else first_turned os v who regs number
-
-  -- a call that changes the fork that called alone
-  abbrev pub own_changed : Unit {0} → Parts file_cmp → Parts file_cmp
-  own_changed change v = v
-
-  -- the calls that print
-  abbrev pub printing : Family file_cmp ⊥ Regs (Unit {0})
-  printing = record { calls = print_calls; asked = λ v who regs. regs; sight = λ v who. no_files; changed = own_changed }
+  -- a turn of one of these calls, asked with this, told this of files, and with what a change of theirs leaves of the parts; for another
+  -- number what else it is
+  abbrev pub if_among : {F A C : Type 0} → List (ℕ × (A → Turn F C)) → A → Sight F K → (C → Parts file_cmp → Parts file_cmp) →
+      Parts file_cmp → ForkName → ℕ → Turned file_cmp → Turned file_cmp
+  if_among calls asked sight changed v who number other =
+      if is_among calls number then behind changed v who (turn_on sight v.pages (numbered calls number asked)) else other
 
   -- what calls on forks and on maps are asked with
   abbrev pub asks : Parts file_cmp → ForkName → Regs → Asked
@@ -114,33 +80,13 @@ module _ {K : Type 0} {file_cmp : K → K → Ordering} where
       let part = fork_changed change (record { tree = v.tree; pages = v.pages }) in
       record v { tree = part.tree; pages = part.pages; jobs = codes_behind change part.tree.forks v.jobs }
 
-  -- the fork calls
-  abbrev pub forking : Family file_cmp ⊥ Asked ForkChange
-  forking = record { calls = fork_calls; asked = asks; sight = λ v who. no_files; changed = forks_changed }
-
   -- a call on pseudo-interrupts changes forks and codes
   abbrev pub interrupts_changed : InterruptChange → Parts file_cmp → Parts file_cmp
   interrupts_changed change v = let part = interrupt_changed change (record { tree = v.tree; jobs = v.jobs }) in record v { tree = part.tree; jobs = part.jobs }
 
-  -- the calls on pseudo-interrupts
-  abbrev pub interrupting : Family file_cmp ⊥ Asked InterruptChange
-  interrupting = record { calls = interrupt_calls; asked = asks; sight = λ v who. no_files; changed = interrupts_changed }
-
   -- what calls on the clock are asked with
   abbrev pub asks_clock : Parts file_cmp → ForkName → Regs → ClockAsked
   asks_clock v who regs = record { call = asks v who regs; clock = v.clock }
-
-  -- a call on the clock changes a fork's sleep
-  abbrev pub sleeps_changed : SleepChange → Parts file_cmp → Parts file_cmp
-  sleeps_changed change v = record v { tree = clock_changed change v.tree }
-
-  -- the calls on the clock
-  abbrev pub timing : Family file_cmp ⊥ ClockAsked SleepChange
-  timing = record { calls = clock_calls; asked = asks_clock; sight = λ v who. no_files; changed = sleeps_changed }
-
-  -- the calls on files that change the fork that called alone
-  abbrev pub filing : Family file_cmp ⊥ Asked (Unit {0})
-  filing = record { calls = file_calls; asked = asks; sight = λ v who. no_files; changed = own_changed }
 
   -- what calls on JFNs are asked with
   abbrev pub asks_jfns : Parts file_cmp → ForkName → Regs → JfnAsked
@@ -155,25 +101,13 @@ module _ {K : Type 0} {file_cmp : K → K → Ordering} where
   asks_maps v who regs = record { who = who; regs = regs; tree = v.tree; held = held_at v.jobs who.tty }
 
   module _ (key_of : List ℕ → K) where
-    -- a call on maps changes pages
-    abbrev pub pages_changed : MapChange → Parts file_cmp → Parts file_cmp
-    pages_changed change v = record v { pages = map_changed key_of change v.pages }
-
-    -- it knows files by their names
+    -- a call that knows files by their names
     abbrev pub files_seen : Parts file_cmp → ForkName → Sight (List ℕ) K
     files_seen v who = record { file_of = λ name. Some (key_of name); is_name = λ name. is_some (map.get v.files name); has_more = nat_lt (map.len v.files) MOST_FILES }
-
-    -- the calls on maps
-    abbrev pub mapping : Family file_cmp (List ℕ) MapAsked MapChange
-    mapping = record { calls = map_calls; asked = asks_maps; sight = files_seen; changed = pages_changed }
 
     -- a call on JFNs changes pages, files and jobs
     abbrev pub jfns_changed : FileChange → Parts file_cmp → Parts file_cmp
     jfns_changed change v = let part = file_changed key_of change (record { pages = v.pages; files = v.files; jobs = v.jobs }) in record v { pages = part.pages; files = part.files; jobs = part.jobs }
-
-    -- the calls on JFNs
-    abbrev pub opening : Family file_cmp ⊥ JfnAsked FileChange
-    opening = record { calls = jfn_calls; asked = asks_jfns; sight = names_seen; changed = jfns_changed }
 
     -- what calls on bytes are asked with
     abbrev pub asks_bytes : Parts file_cmp → ForkName → Regs → ByteAsked
@@ -183,22 +117,17 @@ module _ {K : Type 0} {file_cmp : K → K → Ordering} where
     abbrev pub bytes_changed : ByteChange → Parts file_cmp → Parts file_cmp
     bytes_changed change v = let part = byte_changed key_of change (record { pages = v.pages; files = v.files; jobs = v.jobs }) in record v { pages = part.pages; files = part.files; jobs = part.jobs }
 
-    -- calls that are asked with the same, and change the same
-    abbrev pub on_bytes : ByteRows → Family file_cmp (List ℕ) ByteAsked ByteChange
-    on_bytes rows = record { calls = rows; asked = asks_bytes; sight = files_seen; changed = bytes_changed }
-
-    -- the calls on bytes
-    abbrev pub bytes : Family file_cmp (List ℕ) ByteAsked ByteChange
-    bytes = on_bytes byte_calls
-
-    -- the calls on strings of bytes
-    abbrev pub strings : Family file_cmp (List ℕ) ByteAsked ByteChange
-    strings = on_bytes string_calls
-
-    -- all families, where pages of files are under the keys of the files' names
-    abbrev pub families : List (Offer file_cmp)
-    families = offered printing ∷ offered forking ∷ offered interrupting ∷ offered timing ∷ offered mapping ∷ offered filing ∷ offered opening ∷ offered bytes ∷ offered strings ∷ []
-
-    -- a turn of a monitor call
+    -- A turn of a monitor call by its number, by families of calls, where pages of files are under the keys of the files' names; a number that
+    -- is in none traps.
     abbrev pub call_turned : Parts file_cmp → ForkName → Regs → ℕ → Turned file_cmp
-    call_turned v who regs number = first_turned families v who regs number
+    call_turned v who regs number =
+        if_among print_calls regs no_files (λ change w. w) v who number
+        (if_among fork_calls (asks v who regs) no_files forks_changed v who number
+        (if_among interrupt_calls (asks v who regs) no_files interrupts_changed v who number
+        (if_among clock_calls (asks_clock v who regs) no_files (λ change w. record w { tree = clock_changed change w.tree }) v who number
+        (if_among map_calls (asks_maps v who regs) (files_seen v who) (λ change w. record w { pages = map_changed key_of change w.pages }) v who number
+        (if_among file_calls (asks v who regs) no_files (λ change w. w) v who number
+        (if_among jfn_calls (asks_jfns v who regs) (names_seen v who) jfns_changed v who number
+        (if_among byte_calls (asks_bytes v who regs) (files_seen v who) bytes_changed v who number
+        (if_among string_calls (asks_bytes v who regs) (files_seen v who) bytes_changed v who number
+        (record { parts = v; caller = option_map (λ f. posted f ILLEGAL_INSTRUCTION) (map.get v.tree.forks who); out = None })))))))))

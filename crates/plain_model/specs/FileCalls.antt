@@ -25,8 +25,9 @@ use Rattle.plain_model.specs.declared.call.FileChange.{FileChange}
 use Rattle.plain_model.specs.declared.call.FileChange.TheVariants.{Take, Make, Open, Release, Delete}
 use Rattle.plain_model.specs.State.{PlainJob}
 use Rattle.plain_model.specs.Calls.{Asked, Turn, looks, makes, ends, with_ac, returning, given, numbered}
-use Rattle.plain_model.specs.PointedTexts.{with_text}
 use Rattle.plain_model.specs.ForkCalls.{own_named}
+use Rattle.plain_model.specs.Readings.{with_reading}
+use Rattle.plain_model.specs.PointedTexts.{text_at}
 
 -- GETER: accumulator 2 becomes the last error of the caller or an inferior
 abbrev pub geter : Asked → Turn ⊥ (Unit {0})
@@ -34,7 +35,7 @@ geter a = given (own_named a) (λ f. ends (returning tt (with_ac a.regs 2 f.body
 
 -- the calls on files by their numbers that change the fork that called alone
 abbrev pub file_calls : List (ℕ × (Asked → Turn ⊥ (Unit {0})))
-file_calls = (GETER, geter) ∷ []
+file_calls = (GETER, λ a. given (own_named a) (λ f. ends (returning tt (with_ac a.regs 2 f.body.error)))) ∷ []
 
 -- a turn of such a call by its number
 abbrev pub file_call : ℕ → Asked → Turn ⊥ (Unit {0})
@@ -76,7 +77,8 @@ taking a name = looks name (λ there. option_map_or (λ n. found_or_made a n nam
 
 -- GTJFN: a JFN is taken for the file that the text at the pointer in accumulator 2 names
 abbrev pub gtjfn : JfnAsked → Turn ⊥ FileChange
-gtjfn a = with_text a.who a.regs (in_ac a.regs 2) (λ text. option_map_or (taking a) (option_and_then (file_named a.user []) text) (ends (Failed BAD_NAME)))
+gtjfn a = with_reading a.who a.regs (text_at a.regs (in_ac a.regs 2)) (λ text.
+    option_map_or (taking a) (option_and_then (file_named a.user []) text) (ends (Failed BAD_NAME)))
 
 -- a call of the JFN that accumulator 1 names, with what it stands for
 abbrev pub of_jfn : (ℕ → OpenFile → End FileChange) → JfnAsked → Turn ⊥ FileChange
@@ -91,7 +93,7 @@ mode_in w = record { r = bit w 19 == 1; w = bit w 20 == 1 }
 
 -- OPENF: the file of a JFN that isn't open is opened as accumulator 2 says, to be read, written or both
 abbrev pub openf : JfnAsked → Turn ⊥ FileChange
-openf a = let w = in_ac a.regs 2 in let mode = mode_in w in of_jfn (λ n j.
+openf a = let w = in_ac a.regs 2 in let mode : Mode = record { r = bit w 19 == 1; w = bit w 20 == 1 } in of_jfn (λ n j.
     if is_some j.mode then Failed JFN_OPEN
     else (if nat_lt LARGEST_BYTE (size_in w) then Failed BAD_SIZE
     else (if mode.r || mode.w then skipping (Open a.who.tty n mode (size_in w)) a.regs else Failed NOT_OPEN))) a

@@ -42,8 +42,7 @@ stored_row p at offset (w ∷ ws) = stored_row (stored p at offset w) at (offset
 abbrev pub written : PlainState → List ℕ → ℕ → ℕ → List ℕ → PlainFile → Referred name_cmp → Effect
 written s name page offset words f (granted p) =
     record { state = record s { pages = stored_row p (page_named name page) offset words; files = map.insert s.files name (reaching LARGEST_BYTE (page * PAGE_WORDS + offset + length words) f) }; items = [] }
-written s name page offset words f (denied kind) = refused s (FileFull name)
-written s name page offset words f full = refused s (FileFull name)
+written s name page offset words f other = refused s (FileFull name)
 
 -- whoever writes the script
 abbrev pub console : Tty

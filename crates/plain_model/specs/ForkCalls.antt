@@ -23,7 +23,7 @@ use Rattle.script_texts.specs.declared.status.ForkStatus.TheVariants.{Run, Wait,
 use Rattle.script_texts.specs.declared.status.WaitOn.TheVariants as on
 use Rattle.plain_pages.specs.PlainPages.{PlainPages}
 use Rattle.plain_pages.specs.Room.{uses}
-use Rattle.plain_model.specs.Forks.{ForkMap, first_regs, no_levels, with_status}
+use Rattle.plain_model.specs.Forks.{ForkMap, first_regs, no_levels, with_status, top_fork}
 use Rattle.machine_names.specs.Orders.{same_fork}
 use Rattle.plain_units.specs.Steps.{is_accumulator}
 use Rattle.plain_units.specs.Deeds.{flags_half, in_ac, pc_word, skip_pc}
@@ -72,8 +72,8 @@ made_body regs words body = record body {
 -- the new fork, in a slot under the caller
 abbrev pub made_fork : Asked → ℕ → List ℕ → Fork
 made_fork a slot words =
-    let f = new_fork (next_name a.tree a.who.tty) slot (option_map (λ k. k.slot) (map.get a.tree.forks a.who)) in
-    record f { body = made_body a.regs words f.body }
+    let f = top_fork (next_name a.tree a.who.tty) in
+    record f { slot = slot; superior = option_map (λ k. k.slot) (map.get a.tree.forks a.who); body = made_body a.regs words f.body }
 
 -- it is made, accumulator 1 becomes its handle, and the call returns by its second return
 abbrev pub making : Asked → ℕ → List ℕ → End ForkChange
@@ -90,10 +90,6 @@ making_in a slot =
     if nat_lt LAST_SERIAL (next_serial a.tree a.who.tty) then ends (Failed SERIALS_OUT)
     else adds (next_name a.tree a.who.tty) (map_wanted a) (λ room.
     if room then with_accumulators a (λ words. ends (making a slot words)) else ends (Failed NO_ROOM))
-
--- CFORK: an inferior of the caller is made, in the least free slot
-abbrev pub cfork : Asked → Turn ⊥ ForkChange
-cfork a = option_map_or (making_in a) (free_slot a.tree.forks a.who.tty) (ends (Failed FORKS_FULL))
 
 -- a call that changes an inferior, and no more
 abbrev pub of_inferior : (Fork → ForkChange) → Asked → Turn ⊥ ForkChange
@@ -121,10 +117,6 @@ status_word f = bit_word f.frozen 0 + joined (status_code f.body.status) (status
 unfoldable pub place_word : Asked → Fork → ℕ
 place_word a f = if same_fork f.name a.who then pc_word a.regs else joined (flags_half f.body.regs.flags) f.body.regs.pc
 
--- RFSTS: accumulators 1 and 2 become the status and the PC word of the caller or an inferior
-abbrev pub rfsts : Asked → Turn ⊥ ForkChange
-rfsts a = given (own_named a) (λ f. ends (returning Nothing (with_ac (with_ac a.regs 1 (status_word f)) 2 (place_word a f))))
-
 -- a fork that is started at an address: it has no flags, and no pending channel, level or sleep
 abbrev pub started_at : ℕ → Body → Body
 started_at address body = record body {
@@ -134,17 +126,10 @@ started_at address body = record body {
   sleep = None;
 }
 
--- SFORK: an inferior is started at the address in accumulator 2
-abbrev pub sfork : Asked → Turn ⊥ ForkChange
-sfork a = of_inferior (λ f. Become f.name (started_at (address_named a.regs) f.body)) a
-
-abbrev pub with_accumulators_of : Body → List ℕ → Body
-with_accumulators_of body words = record body { regs = record body.regs { ac = words } }
-
 -- SFACS: an inferior's accumulators become the sixteen words that accumulator 2 names
 abbrev pub sfacs : Asked → Turn ⊥ ForkChange
 sfacs a = given (inferior_named a) (λ f. with_block a.who a.regs (address_named a.regs) Read (λ words.
-    ends (returning (Become f.name (with_accumulators_of f.body words)) a.regs)))
+    ends (returning (Become f.name (record f.body { regs = record f.body.regs { ac = words } })) a.regs)))
 
 -- accumulators with these words stored from an address on; only low addresses are accumulators
 abbrev pub stored_low : List ℕ → ℕ → List ℕ → List ℕ
@@ -162,28 +147,22 @@ has_ended Halted = true
 has_ended (Forced channel) = true
 has_ended status = false
 
--- who waits for a fork goes on where that has ended
-abbrev pub waits_for : Regs → ForkStatus → End ForkChange
-waits_for regs status = if has_ended status then returning Nothing regs else Waits on.Fork
-
--- WFORK: the caller waits until an inferior is halted or forced
-abbrev pub wfork : Asked → Turn ⊥ ForkChange
-wfork a = given (inferior_named a) (λ f. ends (waits_for a.regs f.body.status))
-
--- The fork calls by their numbers. KFORK kills an inferior, and all below it; FFORK gives it the freeze mark, and RFORK takes
--- it away; HFORK halts it; and at HALTF the caller halts.
+-- The fork calls by their numbers. CFORK makes an inferior of the caller, in the least free slot; KFORK kills an inferior, and all below it;
+-- FFORK gives it the freeze mark, and RFORK takes it away; at RFSTS accumulators 1 and 2 become the status and the PC word of the caller or
+-- an inferior; SFORK starts an inferior at the address in accumulator 2; HFORK halts it; at WFORK the caller waits until it is halted or
+-- forced; and at HALTF the caller halts.
 abbrev pub fork_calls : List (ℕ × (Asked → Turn ⊥ ForkChange))
 fork_calls =
-    (CFORK, cfork)
+    (CFORK, λ a. option_map_or (making_in a) (free_slot a.tree.forks a.who.tty) (ends (Failed FORKS_FULL)))
     ∷ (KFORK, of_inferior (λ f. Kill f.name))
     ∷ (FFORK, of_inferior (λ f. Freeze f.name true))
     ∷ (RFORK, of_inferior (λ f. Freeze f.name false))
-    ∷ (RFSTS, rfsts)
-    ∷ (SFORK, sfork)
+    ∷ (RFSTS, λ a. given (own_named a) (λ f. ends (returning Nothing (with_ac (with_ac a.regs 1 (status_word f)) 2 (place_word a f)))))
+    ∷ (SFORK, λ a. of_inferior (λ f. Become f.name (started_at (address_named a.regs) f.body)) a)
     ∷ (SFACS, sfacs)
     ∷ (RFACS, rfacs)
     ∷ (HFORK, of_inferior (λ f. Halt f.name))
-    ∷ (WFORK, wfork)
+    ∷ (WFORK, λ a. given (inferior_named a) (λ f. ends (if has_ended f.body.status then returning Nothing a.regs else Waits on.Fork)))
     ∷ (HALTF, λ a. ends Halts)
     ∷ []
 
@@ -197,13 +176,10 @@ pub record ForkParts {K : Type 0} (file_cmp : K → K → Ordering) : Type 0 whe
   pub pages : PlainPages file_cmp
 
 module _ {K : Type 0} {file_cmp : K → K → Ordering} where
-  -- changed pages without those that the change has taken the last name
-  abbrev pub still_named : PlainPages file_cmp → PlainPages file_cmp → PlainPages file_cmp
-  still_named old new = record new { objects = map.retain_keys new.objects (λ n. (uses old n == 0) || nat_lt 0 (uses new n)) }
-
   -- pages without the maps of some forks; those that lose their last name are dropped
   unfoldable pub without_maps : PlainPages file_cmp → (ForkName → Bool) → PlainPages file_cmp
-  without_maps p goes = still_named p (record p { maps = map.retain_keys p.maps (λ f. not (goes f)) })
+  without_maps p goes = let q = record p { maps = map.retain_keys p.maps (λ f. not (goes f)) } in
+      record q { objects = map.retain_keys q.objects (λ n. (uses p n == 0) || nat_lt 0 (uses q n)) }
 
   -- without some forks and their maps
   abbrev pub without_all : ForkParts file_cmp → (ForkName → Bool) → ForkParts file_cmp
@@ -215,7 +191,7 @@ module _ {K : Type 0} {file_cmp : K → K → Ordering} where
 
   -- without a fork and its inferiors
   unfoldable pub killed : ForkParts file_cmp → ForkName → ForkParts file_cmp
-  killed v f = without_all v (is_in_branch v.tree.forks f)
+  killed v f = without_all v (λ name. same_fork name f || is_inferior v.tree.forks f name)
 
   -- with other forks
   abbrev pub with_forks : ForkParts file_cmp → ForkMap → ForkParts file_cmp

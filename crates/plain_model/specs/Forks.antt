@@ -45,15 +45,15 @@ is_run status = false
 
 -- whether a fork can run: its status is Run, and neither it nor an ancestor is frozen
 abbrev pub can_run : ForkMap → Fork → Bool
-can_run forks f = is_run f.body.status && not (is_frozen MOST_FORKS forks (Some f))
+can_run forks f = is_run f.body.status && not (any_upward (λ k. k.frozen) MOST_FORKS forks (Some f))
 
 -- whether the fork of a name lives and can run
 abbrev pub runs_in : ForkMap → ForkName → Bool
 runs_in forks name = option_map_or (can_run forks) (map.get forks name) false
 
--- the same, as what holds
+-- the fork of a name lives and can run
 abbrev pub IsRunnable : ForkMap → ForkName → Type 0
-IsRunnable forks name = runs_in forks name ≡ true
+IsRunnable forks name = option_map_or (can_run forks) (map.get forks name) false ≡ true
 
 -- each fork of another job than this is as it was
 abbrev pub OthersStay : Tty → ForkMap → ForkMap → Type 0

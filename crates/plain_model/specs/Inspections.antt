@@ -7,7 +7,7 @@ use Rattle.word36.specs.Words.{left, right, joined}
 use Rattle.plain_pages.specs.PlainPages.{PlainPages}
 use Rattle.plain_units.specs.declared.registers.Regs.{Regs}
 use Rattle.plain_units.specs.Deeds.{flags_half, without_bis}
-use Rattle.plain_units.specs.Steps.{is_accumulator, put_into}
+use Rattle.plain_units.specs.Steps.{is_accumulator, put_into, refers}
 use Rattle.plain_model.specs.declared.call.End.{End}
 use Rattle.plain_model.specs.declared.call.End.TheVariants.{Done, Trap}
 use Rattle.plain_model.specs.declared.fork.Fork.{Fork}
@@ -19,7 +19,8 @@ use Rattle.plain_model.specs.declared.interrupt.Inspected.TheVariants.{Nothing, 
 use Rattle.plain_model.specs.declared.interrupt.TheConstants.{CHANNELS, LEVELS}
 use Rattle.plain_model.specs.Calls.{Came, Turn, ends, no_files, turn_on}
 use Rattle.plain_model.specs.Interrupts.{channel_word, has_channel, is_panic, without_channels}
-use Rattle.plain_model.specs.Readings.{Reading, words, read, with_reading, word_steps, written_steps}
+use Rattle.plain_model.specs.Readings.{Reading, words, read, with_reading, word_steps, written_steps, ends_with}
+use Rattle.machine_names.specs.declared.names.Kind.TheVariants.{Write}
 
 -- whether a channel is active and pending
 abbrev pub is_wanted : Psi → ℕ → Bool
@@ -37,17 +38,13 @@ wants_one psi = list_any (is_wanted psi) (range_with_len 0 CHANNELS)
 unfoldable pub is_interrupted : Psi → Bool
 is_interrupted psi = psi.on && is_some psi.table && wants_one psi
 
--- whether a level, 1 to 3, is in progress
-abbrev pub in_progress : Psi → ℕ → Bool
-in_progress psi level = slice_index_or psi.levels (level - 1) false
-
 -- whether a level is less than each in progress
 abbrev pub goes_before : ℕ → Psi → Bool
 goes_before level psi = not (list_any (λ on. on) (take level psi.levels))
 
 -- the least level in progress
 abbrev pub least_level : Psi → Option ℕ
-least_level psi = find (in_progress psi) (range_with_len 1 LEVELS)
+least_level psi = find (λ level. slice_index_or psi.levels (level - 1) false) (range_with_len 1 LEVELS)
 
 -- the addresses of a channel's word and of a level's, LEVTAB,,CHNTAB being the table
 abbrev pub channel_at : ℕ → ℕ → ℕ
@@ -72,7 +69,8 @@ judged psi channel word best next =
 abbrev pub chosen : Regs → ℕ → Option Found → Reading Inspected
 chosen regs table None = read Nothing
 chosen regs table (Some best) =
-    words (word_steps regs (level_at table best.level)) (λ w. words (written_steps regs (right w)) (λ old. read (Delivers (record { found = best; at = right w }))))
+    words (word_steps regs (level_at table best.level)) (λ w. words (refers (right w) Write (ends_with regs)) (λ old.
+    read (Delivers (record { found = best; at = right w }))))
 
 -- channels are looked at in order, by their words
 unfoldable pub inspecting : Fork → ℕ → List ℕ → Option Found → Reading Inspected
@@ -118,7 +116,7 @@ delivered f d = record f {
 module _ {K : Type 0} {file_cmp : K → K → Ordering} where
   -- how the inspection of a fork comes out on these pages
   abbrev pub inspected : Fork → PlainPages file_cmp → Came file_cmp Inspected
-  inspected f p = turn_on no_files p (inspection_turn f)
+  inspected f p = turn_on no_files p (with_reading f.name f.body.regs (inspection f) (λ what. ends (Done what f.body.regs None None)))
 
   -- the pages with the PC word stored, where that goes into one
   abbrev pub stored_word : PlainPages file_cmp → Fork → Delivery → PlainPages file_cmp

@@ -28,11 +28,7 @@ use Rattle.plain_model.specs.Posting.{with_all_posted}
 use Rattle.plain_model.specs.Readings.{Reading, words, read, with_reading, word_steps}
 use Rattle.plain_model.specs.Trees.{PlainTree, with_body, with_changed_of}
 
--- a turn of these calls
-abbrev pub InterruptTurn : Type 0
-InterruptTurn = Turn ⊥ InterruptChange
-
--- ---- SIR, EIR, DIR, AIC, DIC
+-- ---- all but DEBRK, ATI and DTI
 
 -- a fork with other interrupts; and one that goes on besides, where it waits and an active channel is pending
 abbrev pub with_psi : Body → Psi → Body
@@ -42,36 +38,16 @@ abbrev pub awake : Body → Body
 awake body = if wants_one body.psi then record body { status = woken body.status } else body
 
 -- the caller or an inferior has another body
-abbrev pub becoming : Asked → (Body → Body) → InterruptTurn
+abbrev pub becoming : Asked → (Body → Body) → Turn ⊥ InterruptChange
 becoming a change = given (own_named a) (λ f. ends (returning (Become f.name (change f.body)) a.regs))
 
--- SIR: the level table and the channel table
-abbrev pub sir : Asked → InterruptTurn
-sir a = becoming a (λ body. with_psi body (record body.psi { table = Some (in_ac a.regs 2) }))
-
--- EIR, DIR: interrupts are on, or off
-abbrev pub eir : Asked → InterruptTurn
-eir a = becoming a (λ body. awake (with_psi body (record body.psi { on = true })))
-
-abbrev pub dir : Asked → InterruptTurn
-dir a = becoming a (λ body. with_psi body (record body.psi { on = false }))
-
--- AIC, DIC: channels are active; or neither active nor pending
-abbrev pub aic : Asked → InterruptTurn
-aic a = becoming a (λ body. awake (with_psi body (record body.psi { active = with_channels body.psi.active (in_ac a.regs 2) })))
-
-abbrev pub dic : Asked → InterruptTurn
+-- DIC: channels are neither active nor pending
+abbrev pub dic : Asked → Turn ⊥ InterruptChange
 dic a = becoming a (λ body. with_psi body (record body.psi { active = without_channels body.psi.active (in_ac a.regs 2); pending = without_channels body.psi.pending (in_ac a.regs 2) }))
-
--- ---- IIC
 
 -- channels posted to a fork: the end of the caller is told by its own unit
 abbrev pub posting : Asked → Fork → InterruptChange
 posting a f = if same_fork f.name a.who then Become f.name (posted_all f (channels_of (in_ac a.regs 2))).body else Post f.name (in_ac a.regs 2)
-
--- IIC: channels are posted, in order
-abbrev pub iic : Asked → InterruptTurn
-iic a = given (own_named a) (λ f. ends (returning (posting a f) a.regs))
 
 -- ---- DEBRK
 
@@ -88,18 +64,18 @@ abbrev pub without_level : Body → ℕ → Body
 without_level body level = with_psi body (record body.psi { levels = slice_set body.psi.levels (level - 1) false })
 
 -- a level of a fork is over, and it goes on where it was interrupted
-abbrev pub dismissed : Asked → Fork → ℕ → ℕ → InterruptTurn
+abbrev pub dismissed : Asked → Fork → ℕ → ℕ → Turn ⊥ InterruptChange
 dismissed a f table level = with_reading a.who a.regs (word_stored a.regs table level) (λ w. ends (Done (Become f.name (without_level f.body level)) (restored a.regs w) None None))
 
 -- the least level in progress, and the table in which its word is; a level that is in progress has one
 abbrev pub level_to_end : Fork → Option (ℕ × ℕ)
 level_to_end f = option_map_or (λ table. option_map (λ level. (table, level)) (least_level f.body.psi)) f.body.psi.table None
 
-abbrev pub dismissed_if : Asked → Fork → InterruptTurn
+abbrev pub dismissed_if : Asked → Fork → Turn ⊥ InterruptChange
 dismissed_if a f = option_map_or (λ at. dismissed a f at.0 at.1) (level_to_end f) (ends (Trap ILLEGAL_INSTRUCTION))
 
 -- DEBRK: the least level in progress is over; without one the call traps
-abbrev pub debrk : Asked → InterruptTurn
+abbrev pub debrk : Asked → Turn ⊥ InterruptChange
 debrk a = option_map_or (dismissed_if a) (map.get a.tree.forks a.who) (ends (Trap ILLEGAL_INSTRUCTION))
 
 -- ---- ATI, DTI
@@ -109,19 +85,26 @@ abbrev pub is_bad_code : ℕ → Bool
 is_bad_code code = nat_le ASSIGNABLE_CODES code || (code == CONTROL_C)
 
 -- ATI: the code in the left half of accumulator 1 is assigned to the caller's channel in the right half
-abbrev pub ati : Asked → InterruptTurn
+abbrev pub ati : Asked → Turn ⊥ InterruptChange
 ati a = let code = left (in_ac a.regs 1) in let channel = right (in_ac a.regs 1) in
     given (if is_bad_code code || nat_le CHANNELS channel then Err BAD_CODE else Ok (Assign code a.who channel)) (λ change. ends (returning change a.regs))
 
 -- DTI: the code in accumulator 1 is assigned to nothing
-abbrev pub dti : Asked → InterruptTurn
+abbrev pub dti : Asked → Turn ⊥ InterruptChange
 dti a = given (if is_bad_code (in_ac a.regs 1) then Err BAD_CODE else Ok (Unassign a.who.tty (in_ac a.regs 1))) (λ change. ends (returning change a.regs))
 
 -- ---- all
 
--- the calls on pseudo-interrupts by their numbers
-abbrev pub interrupt_calls : List (ℕ × (Asked → InterruptTurn))
-interrupt_calls = (SIR, sir) ∷ (EIR, eir) ∷ (DIR, dir) ∷ (AIC, aic) ∷ (IIC, iic) ∷ (DIC, dic) ∷ (DEBRK, debrk) ∷ (ATI, ati) ∷ (DTI, dti) ∷ []
+-- The calls on pseudo-interrupts by their numbers. SIR gives the level table and the channel table; EIR and DIR put interrupts on and off;
+-- AIC makes channels active; and IIC posts channels, in order.
+abbrev pub interrupt_calls : List (ℕ × (Asked → Turn ⊥ InterruptChange))
+interrupt_calls =
+    (SIR, λ a. becoming a (λ body. with_psi body (record body.psi { table = Some (in_ac a.regs 2) })))
+    ∷ (EIR, λ a. becoming a (λ body. awake (with_psi body (record body.psi { on = true }))))
+    ∷ (DIR, λ a. becoming a (λ body. with_psi body (record body.psi { on = false })))
+    ∷ (AIC, λ a. becoming a (λ body. awake (with_psi body (record body.psi { active = with_channels body.psi.active (in_ac a.regs 2) }))))
+    ∷ (IIC, λ a. given (own_named a) (λ f. ends (returning (posting a f) a.regs)))
+    ∷ (DIC, dic) ∷ (DEBRK, debrk) ∷ (ATI, ati) ∷ (DTI, dti) ∷ []
 
 -- what they change: the forks, and the codes that the jobs' forks have assigned
 pub record InterruptParts : Type 0 where
@@ -141,4 +124,4 @@ interrupt_changed (Unassign t code) v = record v { jobs = with_codes_of v.jobs t
 
 -- the codes that forks have assigned which live: those of a fork that is killed go with it
 abbrev pub living_codes : ForkMap → Codes → Codes
-living_codes forks codes = codes_of (λ f. is_some (map.get forks f)) codes
+living_codes forks codes = map.retain_keys codes (λ code. option_map_or (λ a. is_some (map.get forks a.0)) (map.get codes code) false)

@@ -25,4 +25,5 @@ pub mod StringCalls
 pub mod InterruptCalls
 pub mod ClockCalls
 pub mod Families
+pub mod EachFamily
 pub mod Moves

@@ -19,7 +19,7 @@ use Rattle.plain_pages.specs.declared.map.MapEntry.TheVariants as entry
 use Rattle.plain_units.specs.declared.registers.Regs.{Regs}
 use Rattle.plain_pages.specs.PlainPages.{PlainPages}
 use Rattle.plain_pages.specs.Maps.{narrow}
-use Rattle.plain_pages.specs.References.{Spot, in_map, in_file, with_changed}
+use Rattle.plain_pages.specs.References.{Spot, in_map, in_file, with_changed, page_at}
 use Rattle.plain_pages.specs.FilePages.{filed_from, with_file}
 use Rattle.machine_names.specs.Orders.{FilePage}
 use Rattle.machine_names.specs.declared.names.Kind.TheVariants.{Read, Write}
@@ -122,13 +122,10 @@ next_source word = if word == ALL_ONES then word else (word + 1) % 2 ^ 36
 abbrev pub on_next_page : Regs → Regs
 on_next_page regs = with_ac (with_ac (with_ac regs 1 (next_source (in_ac regs 1))) 2 ((in_ac regs 2 + 1) % 2 ^ 36)) 3 (in_ac regs 3 - 1)
 
--- the call is done where no page is left; else the program counter stays on it
-abbrev pub behind_last : Regs → Regs
-behind_last regs = if pages_left regs == 0 then behind_call regs else regs
-
--- the registers behind one page of PMAP
+-- the registers behind one page of PMAP: the call is done where no page is left, and else the program counter stays on it
 unfoldable pub behind_page : Regs → Regs
-behind_page regs = if is_counted regs then behind_last (on_next_page regs) else behind_call regs
+behind_page regs = let next = on_next_page regs in
+    if is_counted regs then (if pages_left next == 0 then behind_call next else next) else behind_call regs
 
 -- a change is made of one page, and the call goes on to the next or is done
 abbrev pub maps : MapAsked → MapChange → End MapChange
@@ -215,5 +212,5 @@ module _ {K : Type 0} {file_cmp : K → K → Ordering} (key_of : List ℕ → K
   map_changed (Follow slot other access) p = with_changed p slot (λ e. entry.Follows other.fork.serial other.page access)
   map_changed (Narrow slot access) p = with_changed p slot (narrow access)
   map_changed (Map slot name page access) p = with_changed p slot (λ e. entry_for access e (map.get p.files (keyed key_of name page)))
-  map_changed (Put name page slot) p = filed_from p (keyed key_of name page) slot
+  map_changed (Put name page slot) p = with_file p (keyed key_of name page) (page_at p (in_map slot))
   map_changed (Drop name page) p = with_file p (keyed key_of name page) None

@@ -10,10 +10,6 @@ use Rattle.plain_model.specs.declared.text.TheConstants.{MOST_BYTES, SHORT_POINT
 use Rattle.plain_model.specs.Calls.{Turn}
 use Rattle.plain_model.specs.Readings.{Reading, words, read, ends_with, word_steps, with_reading}
 
--- the reading of a text, or of none
-abbrev pub TextReading : Type 0
-TextReading = Reading (Option (List ℕ))
-
 -- a pointer in short, written out
 abbrev pub full_pointer : ℕ → ℕ
 full_pointer p = if left p == SHORT_POINTER then joined SEVEN_BIT_POINTER (right p) else p
@@ -26,25 +22,17 @@ pointing_to p a = p / 2 ^ 24 * 2 ^ 24 + a
 abbrev pub address_steps : Regs → ℕ → Steps
 address_steps regs p = address regs.ac p (λ e last. ends_with regs e)
 
--- a byte that is 0 ends a text; another is one more of it
-abbrev pub byte_read : ℕ → List ℕ → (List ℕ → TextReading) → TextReading
-byte_read byte text next = if byte == 0 then read (Some text) else next (text ++ byte ∷ [])
-
--- so many bytes at most behind a text, from the one that a pointer names on
-unfoldable pub bytes_from : ℕ → Regs → ℕ → List ℕ → TextReading
+-- so many bytes at most behind a text, from the one that a pointer names on; a byte that is 0 ends it
+unfoldable pub bytes_from : ℕ → Regs → ℕ → List ℕ → Reading (Option (List ℕ))
 bytes_from zero regs p text = read None
-bytes_from (suc n) regs p text = words (word_steps regs (right p)) (λ w. byte_read (loaded p w) text (bytes_from n regs (incremented p)))
+bytes_from (suc n) regs p text = words (word_steps regs (right p)) (λ w. let byte = loaded p w in
+    if byte == 0 then read (Some text) else bytes_from n regs (incremented p) (text ++ byte ∷ []))
 
 -- THE TEXT AT A POINTER: its bytes, up to the first that is 0; none where that isn't among so many. The pointer is incremented before
 -- each byte; its address is taken once, behind the first increment.
-abbrev pub text_at : Regs → ℕ → TextReading
+abbrev pub text_at : Regs → ℕ → Reading (Option (List ℕ))
 text_at regs p = let first = incremented (full_pointer p) in words (address_steps regs first) (λ e. bytes_from MOST_BYTES regs (pointing_to first e) [])
 
 -- THE BYTE AT A POINTER
 abbrev pub byte_at : Regs → ℕ → Reading ℕ
 byte_at regs p = words (address_steps regs p) (λ e. words (word_steps regs e) (λ w. read (loaded p w)))
-
-module _ {F C : Type 0} where
-  -- a turn goes on with the text at a pointer
-  abbrev pub with_text : ForkName → Regs → ℕ → (Option (List ℕ) → Turn F C) → Turn F C
-  with_text f regs p next = with_reading f regs (text_at regs p) next

@@ -12,4 +12,5 @@ abbrev pub told_if : Bool → ForkMap → Fork → ForkMap
 told_if ended forks f = let put = map.insert forks f.name f in if ended then end_told put f else put
 
 abbrev pub with_all_posted : ForkMap → List ℕ → Fork → ForkMap
-with_all_posted forks channels f = told_if (list_any (forces f.body.psi) channels) forks (posted_all f channels)
+with_all_posted forks channels f = let g = posted_all f channels in let put = map.insert forks g.name g in
+    if list_any (forces f.body.psi) channels then end_told put g else put

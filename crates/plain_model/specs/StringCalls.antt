@@ -17,7 +17,7 @@ use Rattle.plain_model.specs.declared.call.End.TheVariants.{Done, Waits, Refused
 use Rattle.plain_model.specs.declared.call.ByteChange.{ByteChange}
 use Rattle.plain_model.specs.declared.call.ByteChange.TheVariants.{Nothing, Take, Move, Put}
 use Rattle.plain_model.specs.Calls.{behind_call, ends, given, numbered, reads, returning, takes, touches, with_ac}
-use Rattle.plain_model.specs.ByteCalls.{ByteAsked, ByteRows, ByteTurn, by_number, byte_offset, byte_page, byte_pointer, end_for, if_written, jfn_number, jfn_open, page_in}
+use Rattle.plain_model.specs.ByteCalls.{ByteAsked, ByteTurn, by_number, byte_offset, byte_page, byte_pointer, end_for, if_written, jfn_number, jfn_open, page_in}
 use Rattle.plain_model.specs.MapCalls.{file_spot, is_read, is_written}
 use Rattle.plain_model.specs.PointedTexts.{address_steps, byte_at, full_pointer}
 use Rattle.plain_model.specs.Readings.{with_reading}
@@ -25,10 +25,6 @@ use Rattle.plain_model.specs.Readings.{with_reading}
 -- a string's pointer behind its next byte
 abbrev pub next_pointer : ℕ → ℕ
 next_pointer p = incremented (full_pointer p)
-
--- a call that takes one byte of its string each turn is made again until it is over
-abbrev pub again_unless : Bool → Regs → Regs
-again_unless over regs = if over then behind_call regs else regs
 
 -- ---- PSOUT
 
@@ -52,9 +48,10 @@ abbrev pub is_last : Regs → ℕ → Bool
 is_last regs byte = let c = in_ac regs 3 in
     if c == 0 then byte == 0 else (count_behind c == 0) || (not (is_negative c) && (byte == in_ac regs 4))
 
--- the registers behind a byte of a string, whose pointer has come so far
+-- the registers behind a byte of a string, whose pointer has come so far: the call is made again until it has taken the last one
 abbrev pub behind_byte : Regs → ℕ → ℕ → Regs
-behind_byte regs p byte = again_unless (is_last regs byte) (with_ac (with_ac regs 2 p) 3 (count_behind (in_ac regs 3)))
+behind_byte regs p byte = let next = with_ac (with_ac regs 2 p) 3 (count_behind (in_ac regs 3)) in
+    if is_last regs byte then behind_call next else next
 
 -- steps that deposit a byte into the word at an address, and end with these registers; they write an accumulator last
 abbrev pub deposit_steps : Regs → ℕ → ℕ → ℕ → Steps
@@ -78,7 +75,7 @@ at_end a = Done Nothing (behind_call a.regs) None (Some END_OF_FILE)
 
 -- the next byte of a file
 abbrev pub takes_from : ByteAsked → OpenFile → ByteTurn
-takes_from a j = if nat_le (end_for a j) j.at then ends (at_end a)
+takes_from a j = if nat_le (end_for a j) j.at then ends (Done Nothing (behind_call a.regs) None (Some END_OF_FILE))
     else reads (page_in j (byte_page j)) (byte_offset j) (λ w. takes_next a (Move a.who.tty (jfn_number a) (j.at + 1)) (loaded (byte_pointer j) w))
 
 -- SIN: the next byte of a file that is open to be read, or the next character, becomes the next of a string
@@ -108,7 +105,7 @@ sout a = by_number (jfn_number a) (ends (Refused NOT_OPEN)) (with_next a (prints
     if nat_lt j.at (most_bytes j.size) then with_next a (puts_byte a j) else ends (Refused BAD_POSITION)))
 
 -- the calls on strings by their numbers
-abbrev pub string_calls : ByteRows
+abbrev pub string_calls : List (ℕ × (ByteAsked → ByteTurn))
 string_calls = (SIN, sin) ∷ (SOUT, sout) ∷ (PSOUT, psout) ∷ []
 
 -- a turn of a call on strings by its number

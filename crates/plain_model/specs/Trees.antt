@@ -33,13 +33,9 @@ next_serial tree t = slice_index tree.serials t.0
 abbrev pub next_name : PlainTree → Tty → ForkName
 next_name tree t = record { tty = t; serial = next_serial tree t }
 
--- whether no fork of a job is in a slot
-abbrev pub is_free : ForkMap → Tty → ℕ → Bool
-is_free forks t slot = is_none (fork_in forks t slot)
-
 -- the least slot of a job in which no fork is
 unfoldable pub free_slot : ForkMap → Tty → Option ℕ
-free_slot forks t = find (is_free forks t) (range_with_len 1 MOST_FORKS)
+free_slot forks t = find (λ slot. is_none (fork_in forks t slot)) (range_with_len 1 MOST_FORKS)
 
 -- a new fork: it is halted at address 0, with nothing in its accumulators, under a superior or as a top fork
 abbrev pub new_fork : ForkName → ℕ → Option ℕ → Fork
@@ -81,7 +77,7 @@ job_changed change t forks = all_changed (λ f. if f.name.tty.0 == t.0 then chan
 
 -- a fork of a job has ended: who waits for a fork of that job runs again
 unfoldable pub waiters_woken : ForkMap → Tty → ForkMap
-waiters_woken forks t = job_changed unwaited t forks
+waiters_woken forks t = job_changed (λ f. with_status f (without_wait f.body.status)) t forks
 
 -- who waits for a character runs again
 abbrev pub without_read : ForkStatus → ForkStatus
@@ -93,7 +89,7 @@ unread f = with_status f (without_read f.body.status)
 
 -- a character is stored for a job: whoever waits for one runs again
 unfoldable pub readers_woken : ForkMap → Tty → ForkMap
-readers_woken forks t = job_changed unread t forks
+readers_woken forks t = job_changed (λ f. with_status f (without_read f.body.status)) t forks
 
 -- who sleeps to a moment that the clock has reached runs again
 abbrev pub without_sleep : ℕ → ForkStatus → ForkStatus
@@ -105,7 +101,7 @@ awoken clock f = with_status f (without_sleep clock f.body.status)
 
 -- the clock has come to a moment: each sleeper whose moment it reaches runs again
 unfoldable pub sleepers_awoken : ℕ → ForkMap → ForkMap
-sleepers_awoken clock forks = all_changed (awoken clock) forks
+sleepers_awoken clock forks = all_changed (λ f. with_status f (without_sleep clock f.body.status)) forks
 
 -- a fork has halted or was forced: who waits for a fork of its job runs again, and then its superior is told by a channel
 abbrev pub end_told : ForkMap → Fork → ForkMap

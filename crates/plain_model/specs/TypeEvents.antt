@@ -50,8 +50,8 @@ line_of j = record { input = j.input; codes = j.codes }
 
 -- a character is stored: it is echoed, and whoever waits for one runs again
 abbrev pub stored : PlainState → Tty → PlainJob → ℕ → Effect
-stored s t j code = let line = left_by (line_of j) code Stored in
-    record { state = record (with_job_at s t (record j { input = line.input })) { forks = readers_woken s.forks t }; items = echo t code }
+stored s t j code = let stored = with_job_at s t (record j { input = j.input ++ code ∷ [] }) in
+    record { state = record stored { forks = readers_woken s.forks t }; items = echo t code }
 
 -- a channel is posted to a fork: where that forces it, it has stopped
 abbrev pub channel_posted : PlainState → ℕ → Fork → Effect
@@ -83,7 +83,7 @@ line_typed s t j code = if nat_lt (length j.line) MOST_STORED then record { stat
 
 -- a character as it is read, by who reads the terminal
 unfoldable pub typed_one : TerminalMode → PlainState → Tty → PlainJob → ℕ → Effect
-typed_one Program s t j code = typed_so (fate_of (line_of j) code) s t j code
+typed_one Program s t j code = typed_so (fate_of (record { input = j.input; codes = j.codes }) code) s t j code
 typed_one Command s t j code = if code == CONTROL_C then interrupted s t j else (if code == LINE_END then line_ended s t j else line_typed s t j code)
 
 -- what is done with a character that is typed at a terminal: once its job is gone, nothing

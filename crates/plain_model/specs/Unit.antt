@@ -27,6 +27,8 @@ use Rattle.plain_model.specs.Inspections.{delivered, inspected, inspected_by, is
 use Rattle.plain_model.specs.Interrupts.{posted}
 use Rattle.machine_names.specs.Orders.{name_cmp}
 use Rattle.plain_units.specs.Units.{unit_on}
+use Rattle.plain_units.specs.Blocks.{steps_on}
+use Rattle.plain_units.specs.Instructions.{instruction}
 
 -- what a step leaves, and what it shows
 pub record Effect : Type 0 where
@@ -55,13 +57,10 @@ stop_text status = []
 abbrev pub in_command_mode : PlainState → Tty → PlainState
 in_command_mode s t = option_map_or (λ j. record s { jobs = map_of.insert s.jobs t.0 (record j { mode = Command }) }) (map_of.get s.jobs t.0) s
 
--- the forks with one that has stopped: who waits for it runs again, and its superior is told
-abbrev pub with_stopped : PlainState → Fork → PlainState
-with_stopped s f = let t = with_fork s f in record t { forks = end_told t.forks f }
-
--- a fork has stopped: where it is a top fork it prints, and its terminal is in command mode
+-- a fork has stopped: who waits for it runs again, and its superior is told; where it is a top fork it prints, and its terminal is in
+-- command mode
 abbrev pub stopped : PlainState → Fork → Effect
-stopped s f = let t = with_stopped s f in
+stopped s f = let put = with_fork s f in let t = record put { forks = end_told put.forks f } in
     if is_some f.superior then record { state = t; items = [] }
     else record { state = in_command_mode t f.name.tty; items = printed f.name.tty (stop_text f.body.status) }
 
@@ -70,10 +69,6 @@ abbrev pub unit_ended : PlainState → Fork → ForkStatus → Effect
 unit_ended s f Halted = stopped s (counted f)
 unit_ended s f (Forced channel) = stopped s (counted f)
 unit_ended s f status = record { state = with_fork s (counted f); items = [] }
-
--- a trap changes nothing, leaves the program counter on the instruction, and posts its channel
-abbrev pub trapped : PlainState → Fork → ℕ → Effect
-trapped s f channel = unit_ended s (posted f channel) (posted f channel).body.status
 
 -- the parts of the state that calls see and change, and the state with others
 abbrev pub parts_of : PlainState → Parts name_cmp
@@ -102,16 +97,17 @@ called s f number = turned s f.name.tty (call_turned (λ name. name) (parts_of s
 abbrev pub went : PlainState → Fork → NamedPages → Ending → Effect
 went s f pages e = let g = posted_if (with_regs f e.regs) e.post in unit_ended (record s { pages = pages }) g g.body.status
 
--- a unit is over; a monitor call is done on the state before it, so that no page is made for its fetch
+-- a unit is over: a trap changes nothing, leaves the program counter on the instruction, and posts its channel; a monitor call is done on
+-- the state before the unit, so that no page is made for its fetch
 abbrev pub over : PlainState → Fork → Planned name_cmp ⊥ → Effect
 over s f (done t e) = went s f (pages_left f.name t e) e
-over s f (unit_stopped (trap channel)) = trapped s f channel
+over s f (unit_stopped (trap channel)) = unit_ended s (posted f channel) (posted f channel).body.status
 over s f (unit_stopped (need none)) = absurd none
-over s f (call number) = called s f number
+over s f (call number) = turned s f.name.tty (call_turned (λ name. name) (parts_of s) f.name f.body.regs number)
 
 -- the unit of a fork that lives, its interrupts aside
 abbrev pub instruction_unit : PlainState → Fork → Effect
-instruction_unit s f = over s f (unit_on f.name s.pages f.body.regs)
+instruction_unit s f = over s f (steps_on f.name f.body.regs (instruction f.body.regs) s.pages)
 
 -- a channel is delivered, which is the whole unit
 abbrev pub taken_up : PlainState → NamedPages → Fork → Delivery → Effect

@@ -1,3 +1,4 @@
 pub mod Lookups
 pub mod RefiledUnits
 pub mod PageRuns
+pub mod Shorthands

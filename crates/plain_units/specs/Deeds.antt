@@ -159,10 +159,6 @@ shifts op o = operated Basic o.regs o.ac o.e (Some (shifted op o.a o.a1 o.e))
 abbrev pub finds_first_one : Operands → Deed
 finds_first_one o = record (nothing_done o.regs) { next = Some (first_one o.a); pc = if o.a == 0 then next_pc o.regs else o.e }
 
--- 250: EXCH
-abbrev pub exchanges : Operands → Deed
-exchanges o = record (nothing_done o.regs) { ac = Some o.m; store = back o.e o.a }
-
 -- both halves of a word one higher, each by itself
 abbrev pub halves_up : ℕ → ℕ
 halves_up w = joined ((left w + 1) % 2 ^ 18) ((right w + 1) % 2 ^ 18)
@@ -266,10 +262,6 @@ counts n code regs ac a e m = if nat_lt code 8 then jumped (added a n) else skip
       post = overflow_post o.flags.overflow;
     }
 
--- 400 to 477: SETZ to SETO
-abbrev pub combines : OpMode → ℕ → Operands → Deed
-combines mode op o = by_mode mode o.regs o.ac o.e (boolean_of op o.a o.m)
-
 -- 500 to 577: halfwords; in mode M the accumulator's half goes to the word at E, in mode S the word's half into itself
 abbrev pub moves_half : OpMode → ℕ → Operands → Deed
 moves_half Memory op o = by_mode Memory o.regs o.ac o.e (half_of op o.a o.m)
@@ -295,79 +287,45 @@ moved_from mode e = operand_of mode e
 abbrev pub of_second_eight : ℕ → ℕ → Option ℕ
 of_second_eight code e = if nat_lt code 8 then None else Some e
 
--- which word an instruction takes, with this word in its accumulator; none where its operand is 0,,E; the first
--- five have steps of their own (`executes`)
-abbrev pub taken_by : Family → OpMode → ℕ → ℕ → ℕ → Option ℕ
-taken_by Illegal mode code a e = None
-taken_by Local mode code a e = None
-taken_by Monitor mode code a e = None
-taken_by ByteOp mode code a e = None
-taken_by Xct mode code a e = None
-taken_by Move mode code a e = moved_from mode e
-taken_by Imul mode code a e = operand_of mode e
-taken_by Mul mode code a e = operand_of mode e
-taken_by Idiv mode code a e = operand_of mode e
-taken_by Div mode code a e = operand_of mode e
-taken_by Shift mode code a e = None
-taken_by Jffo mode code a e = None
-taken_by DoubleShift mode code a e = None
-taken_by Exch mode code a e = Some e
-taken_by Blt mode code a e = Some (left a)
-taken_by Aobj mode code a e = None
-taken_by Jrst mode code a e = None
-taken_by Jfcl mode code a e = None
-taken_by Pushj mode code a e = None
-taken_by PushPop mode code a e = if code == 0 then Some e else Some (right a)
-taken_by Popj mode code a e = Some (right a)
-taken_by JsrJsp mode code a e = None
-taken_by JsaJra mode code a e = if code == 0 then None else Some (left a)
-taken_by AddSub mode code a e = operand_of mode e
-taken_by Compare mode code a e = of_second_eight code e
-taken_by JumpSkip mode code a e = of_second_eight code e
-taken_by AddOne mode code a e = of_second_eight code e
-taken_by SubOne mode code a e = of_second_eight code e
-taken_by Boolean mode code a e = operand_of mode e
-taken_by Half mode code a e = operand_of mode e
-taken_by Test mode code a e = of_second_eight (code % 16) e
+-- What an instruction of each family does: which word it takes, with this word in its accumulator and this E, where none
+-- stands for the operand 0,,E; and its deed, for an opcode. Those of no other line have steps of their own (`executes`).
+abbrev pub acts : Family → OpMode → ℕ → (ℕ → ℕ → Option ℕ) × (ℕ → Operands → Deed)
+acts Move mode code = (λ a e. moved_from mode e, moves mode)
+acts Imul mode code = (λ a e. operand_of mode e, computes mode)
+acts Mul mode code = (λ a e. operand_of mode e, computes mode)
+acts Idiv mode code = (λ a e. operand_of mode e, computes mode)
+acts Div mode code = (λ a e. operand_of mode e, computes mode)
+acts Shift mode code = (λ a e. None, shifts)
+acts Jffo mode code = (λ a e. None, λ op. finds_first_one)
+acts DoubleShift mode code = (λ a e. None, shifts)
+acts Exch mode code = (λ a e. Some e, λ op o. record (nothing_done o.regs) { ac = Some o.m; store = back o.e o.a })
+acts Blt mode code = (λ a e. Some (left a), λ op. moves_block)
+acts Aobj mode code = (λ a e. None, λ op. adds_to_both code)
+acts Jrst mode code = (λ a e. None, λ op. jumps)
+acts Jfcl mode code = (λ a e. None, λ op. jumps_on_flags)
+acts Pushj mode code = (λ a e. None, λ op. calls_by_push)
+acts PushPop mode code = (λ a e. if code == 0 then Some e else Some (right a), λ op. pushes_or_pops code)
+acts Popj mode code = (λ a e. Some (right a), λ op. returns_by_pop)
+acts JsrJsp mode code = (λ a e. None, λ op. calls_by_word code)
+acts JsaJra mode code = (λ a e. if code == 0 then None else Some (left a), λ op. calls_by_accumulator code)
+acts AddSub mode code = (λ a e. operand_of mode e, computes mode)
+acts Compare mode code = (λ a e. of_second_eight code e, λ op. compares code)
+acts JumpSkip mode code = (λ a e. of_second_eight code e, λ op. jumps_or_skips code)
+acts AddOne mode code = (λ a e. of_second_eight code e, λ op o. counts 1 code o.regs o.ac o.a o.e o.m)
+acts SubOne mode code = (λ a e. of_second_eight code e, λ op o. counts (2 ^ 36 - 1) code o.regs o.ac o.a o.e o.m)
+acts Boolean mode code = (λ a e. operand_of mode e, λ op o. by_mode mode o.regs o.ac o.e (boolean_of op o.a o.m))
+acts Half mode code = (λ a e. operand_of mode e, moves_half mode)
+acts Test mode code = (λ a e. of_second_eight (code % 16) e, tests)
+acts family mode code = (λ a e. None, λ op o. nothing_done o.regs)
 
--- what an instruction does; nothing is done here by the first five, which have steps of their own (`executes`)
-abbrev pub done_by : Family → OpMode → ℕ → ℕ → Operands → Deed
-done_by Illegal mode code op o = nothing_done o.regs
-done_by Local mode code op o = nothing_done o.regs
-done_by Monitor mode code op o = nothing_done o.regs
-done_by ByteOp mode code op o = nothing_done o.regs
-done_by Xct mode code op o = nothing_done o.regs
-done_by Move mode code op o = moves mode op o
-done_by Imul mode code op o = computes mode op o
-done_by Mul mode code op o = computes mode op o
-done_by Idiv mode code op o = computes mode op o
-done_by Div mode code op o = computes mode op o
-done_by Shift mode code op o = shifts op o
-done_by Jffo mode code op o = finds_first_one o
-done_by DoubleShift mode code op o = shifts op o
-done_by Exch mode code op o = exchanges o
-done_by Blt mode code op o = moves_block o
-done_by Aobj mode code op o = adds_to_both code o
-done_by Jrst mode code op o = jumps o
-done_by Jfcl mode code op o = jumps_on_flags o
-done_by Pushj mode code op o = calls_by_push o
-done_by PushPop mode code op o = pushes_or_pops code o
-done_by Popj mode code op o = returns_by_pop o
-done_by JsrJsp mode code op o = calls_by_word code o
-done_by JsaJra mode code op o = calls_by_accumulator code o
-done_by AddSub mode code op o = computes mode op o
-done_by Compare mode code op o = compares code o
-done_by JumpSkip mode code op o = jumps_or_skips code o
-done_by AddOne mode code op o = counts 1 code o.regs o.ac o.a o.e o.m
-done_by SubOne mode code op o = counts (2 ^ 36 - 1) code o.regs o.ac o.a o.e o.m
-done_by Boolean mode code op o = combines mode op o
-done_by Half mode code op o = moves_half mode op o
-done_by Test mode code op o = tests op o
+-- the word that one takes
+abbrev pub taken_by : Family → OpMode → ℕ → ℕ → ℕ → Option ℕ
+taken_by family mode code a e = (acts family mode code).0 a e
 
 -- the address of the word that the instruction of a row takes, if it takes one
 unfoldable pub taken_of : TableRow → Regs → ℕ → ℕ → Option ℕ
-taken_of row regs ac e = taken_by row.family row.mode row.code (in_ac regs ac) e
+taken_of row regs ac e = (acts row.family row.mode row.code).0 (in_ac regs ac) e
 
 -- what the instruction of an opcode, with its row, does
 unfoldable pub deed_of : TableRow → ℕ → Regs → ℕ → ℕ → ℕ → ℕ → Deed
-deed_of row op regs ac e last m = done_by row.family row.mode row.code op (operands regs ac e last m)
+deed_of row op regs ac e last m = (acts row.family row.mode row.code).1 op (operands regs ac e last m)

@@ -1,6 +1,6 @@
 -- The laws of the calls on maps.
 use Rattle.std.proofs.Common.{◌≡◌, ◌≢◌, ℕ, ◌+◌, ◌-◌, ◌%◌, ◌^◌, ◌<◌, Bool, true, false, cond, List, length, Some, refl, ◌∙◌, ap, arith, get_or, set, get_or-set_same, length-set}
-use Rattle.std.specs.Prelude.{◌==◌}
+use Rattle.std.specs.Prelude.{◌==◌, if◌then◌else◌}
 use Rattle.std.proofs.lemmas.Bool.{cond_both}
 use Rattle.std.proofs.lemmas.Bool.Decides.{nat_tests}
 use Rattle.std.specs.Option.{option_map_or}
@@ -23,7 +23,7 @@ use Rattle.plain_model.specs.Interrupts.{listens, pended, is_panic}
 use Rattle.plain_units.specs.Deeds.{next_pc, in_ac}
 use Rattle.plain_model.specs.AccessWords.{access_in, access_word}
 use Rattle.plain_model.specs.Calls.{behind_call, with_error, fork_behind, parts_behind}
-use Rattle.plain_model.specs.MapCalls.{behind_last, behind_page, is_counted, map_changed, on_next_page, pages_left, next_source}
+use Rattle.plain_model.specs.MapCalls.{behind_page, is_counted, map_changed, on_next_page, pages_left, next_source}
 use Rattle.plain_pages.proofs.Chains.{entry_set, entry_other}
 use Rattle.plain_pages.proofs.Kept.{entry_maps}
 use Rattle.plain_pages.proofs.Reading.{follower_words}
@@ -110,9 +110,9 @@ module _ (regs : Regs) (fits : IsRegs regs) (counted : is_counted regs ≡ true)
       less : (n : ℕ) → 0 < n % 2 ^ 18 → (n - 1) % 2 ^ 18 + 1 ≡ n % 2 ^ 18
       less n h = omega (arith, h)
 
-  behind_is : behind_page regs ≡ behind_last (on_next_page regs)
+  behind_is : behind_page regs ≡ (if pages_left (on_next_page regs) == 0 then behind_call (on_next_page regs) else (on_next_page regs))
   unfolding behind_page
-  behind_is = ap (λ b. cond b (behind_last (on_next_page regs)) (behind_call regs)) counted
+  behind_is = ap (λ b. cond b (if pages_left (on_next_page regs) == 0 then behind_call (on_next_page regs) else (on_next_page regs)) (behind_call regs)) counted
 
   pub one_page_less : pages_left (behind_page regs) + 1 ≡ pages_left regs
   one_page_less =

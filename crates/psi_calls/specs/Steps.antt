@@ -8,9 +8,9 @@ use Rattle.plain_model.specs.declared.call.InterruptChange.{InterruptChange}
 use Rattle.plain_model.specs.declared.call.InterruptChange.TheVariants.{Become, Post, Assign, Unassign}
 use Rattle.plain_model.specs.declared.fork.Fork.{Fork}
 use Rattle.plain_model.specs.declared.interrupt.TheConstants.{CHANNELS, LEVELS}
-use Rattle.plain_model.specs.Calls.{Asked, ends}
+use Rattle.plain_model.specs.Calls.{Asked, ends, Turn}
 use Rattle.plain_model.specs.Forks.{ForkMap}
-use Rattle.plain_model.specs.InterruptCalls.{InterruptTurn, dismissed}
+use Rattle.plain_model.specs.InterruptCalls.{dismissed}
 use Rattle.plain_model.specs.Interrupts.{channels_of, posted_all}
 use Rattle.call_turns.specs.Turns.{FitsEnd}
 use Rattle.job_forks.specs.Limits.{IsBodyOf}
@@ -24,11 +24,11 @@ abbrev pub posts_to : ForkName → ℕ → Fork → InterruptChange
 posts_to who channels f = if same_fork f.name who then Become f.name (posted_all f (channels_of channels)).body else Post f.name channels
 
 -- the turn of DEBRK that ends this level
-abbrev pub dismissed_at : Asked → LevelToEnd → InterruptTurn
+abbrev pub dismissed_at : Asked → LevelToEnd → Turn ⊥ InterruptChange
 dismissed_at a least = dismissed a least.fork least.table least.level
 
 -- the whole turn of a first step
-abbrev pub whole : Asked → FirstStep → InterruptTurn
+abbrev pub whole : Asked → FirstStep → Turn ⊥ InterruptChange
 whole a (Ends e) = ends e
 whole a (Dismisses least) = dismissed_at a least
 

@@ -13,10 +13,10 @@ use Rattle.plain_pages.specs.PlainPages.{NumberedPages}
 use Rattle.plain_typing.specs.Lines.{Codes, InputLine}
 use Rattle.plain_model.specs.declared.call.End.{End}
 use Rattle.plain_model.specs.declared.call.InterruptChange.{InterruptChange}
-use Rattle.plain_model.specs.Calls.{no_files, parts_behind, turn_on}
+use Rattle.plain_model.specs.Calls.{no_files, parts_behind, turn_on, Turn}
 use Rattle.plain_model.specs.Families.{Parts, interrupts_changed}
 use Rattle.plain_model.specs.FileCalls.{Jobs}
-use Rattle.plain_model.specs.InterruptCalls.{InterruptTurn, with_codes_of}
+use Rattle.plain_model.specs.InterruptCalls.{with_codes_of}
 use Rattle.plain_model.specs.Trees.{PlainTree}
 use Rattle.call_turns.specs.declared.answer.Answer.{Answer}
 use Rattle.call_turns.specs.declared.answer.Answer.TheVariants.{After}
@@ -75,18 +75,18 @@ abbrev pub NoNeeds : Scene → NumberedPages → End InterruptChange → Need �
 NoNeeds scene p e n = ⊥
 
 -- WHAT A TURN OF A CALL ON PSEUDO-INTERRUPTS NEEDS FIRST: what its references need, each on the pages that those before it leave
-abbrev pub PsiNeeds : Scene → NumberedPages → InterruptTurn → Need → Type 0
+abbrev pub PsiNeeds : Scene → NumberedPages → (Turn ⊥ InterruptChange) → Need → Type 0
 PsiNeeds scene p t n = TurnNeeds no_files StepsNeed NoTouches NoNeeds scene p t n
 
 -- a turn comes out over the plain pages as it does here
-abbrev pub ComesOut : Scene → Parts nat_cmp → Parts nat_cmp → Answer → InterruptTurn → Type 0
+abbrev pub ComesOut : Scene → Parts nat_cmp → Parts nat_cmp → Answer → (Turn ⊥ InterruptChange) → Type 0
 ComesOut scene v new result t =
     let c = turn_on no_files v.pages t in
     IsTurn (PsiNeeds scene v.pages t) interrupts_changed v (record v { pages = c.pages }) new result c.end
 
 -- A TURN OF A CALL, over each drum that fits, all files, each clock, and all jobs of which the caller's has these codes: its answer is that of its end,
 -- and what it leaves is what that leaves, with no file and no other job changed; or it needs something first, and leaves all as it was
-pub record Turned {P : Type 0} (means : PagesMeaning P) (old new : P) (tree tree' : PlainTree) (line line' : InputLine) (t : Tty) (result : Answer) (turn : InterruptTurn) : Type 0 where
+pub record Turned {P : Type 0} (means : PagesMeaning P) (old new : P) (tree tree' : PlainTree) (line line' : InputLine) (t : Tty) (result : Answer) (turn : Turn ⊥ InterruptChange) : Type 0 where
   pub fits : (d : DrumWords) → means.fits old d → means.fits new d
   pub comes : (d : DrumWords) (files : FileMap) (jobs : Jobs) (clock : ℕ) → means.fits old d → HasCodes jobs t line
       → ComesOut (means.scene old) (parts tree files jobs clock (means.plain old d)) (parts tree' files (jobs_with jobs t line') clock (means.plain new d)) result turn

@@ -5,16 +5,17 @@ ghost use Rattle.plain_units.specs.declared.channel.TheConstants.{ILLEGAL_INSTRU
 ghost use Rattle.plain_units.specs.declared.registers.Regs.{Regs as ARegs};
 ghost use Rattle.plain_model.specs.declared.call.End.{End as AnEnd};
 ghost use Rattle.plain_model.specs.Interrupts.{channels_of, posted_all};
-ghost use Rattle.plain_model.specs.Calls.{Asked as AnAsked, ends, given};
+ghost use Rattle.plain_model.specs.Calls.{Asked as AnAsked, ends, given, numbered};
 ghost use Rattle.plain_model.specs.Forks.{ForkMap};
 ghost use Rattle.plain_model.specs.Trees.{PlainTree};
 ghost use Rattle.plain_typing.specs.Lines.{IsAssignable};
-ghost use Rattle.plain_model.specs.InterruptCalls.{aic as aic_of, ati as ati_of, debrk as debrk_of, dic as dic_of, dir as dir_of, dismissed_if, dti as dti_of, eir as eir_of, iic as iic_of, is_bad_code as is_bad_code_of, sir as sir_of};
+ghost use Rattle.plain_model.specs.InterruptCalls.{ati as ati_of, debrk as debrk_of, dic as dic_of, dismissed_if, dti as dti_of, is_bad_code as is_bad_code_of, interrupt_calls};
 ghost use Rattle.call_turns.specs.Turns.{FitsEnd, IsRegs};
 ghost use Rattle.fork_tree.specs.Trees.{Lives};
 ghost use Rattle.job_forks.specs.Asking.{asked};
 ghost use Rattle.job_forks.specs.Limits.{IsBodyOf};
 ghost use Rattle.psi_calls.specs.Steps.{FitsStep, IsChange, IsLevelOf, dismissed_at, posts_to, whole};
+ghost use Rattle.plain_model.specs.declared.call.TheConstants.{SIR, EIR, DIR, AIC, IIC};
 
 use crate::bodies::{switched_off, switched_on, with_channels, with_table, without_channels};
 use crate::levels::least_level;
@@ -34,7 +35,7 @@ use word36::Word;
 /// SIR: sets the level table and the channel table of the caller or an inferior, LEVTAB,,CHNTAB, by accumulator 2. NO_HANDLE, NO_INFERIOR.
 pub fn sir(regs: &Regs, who: ForkName, tree: &Tree) -> Result<End<InterruptChange>, u32>
     requires { IsRegs regs.now }
-    ensures turn { given result ends ≡ sir_of (asked who regs.now tree.now) }
+    ensures turn { given result ends ≡ numbered interrupt_calls SIR (asked who regs.now tree.now) }
     ensures fits { IfOk result (FitsEnd (IsChange tree.now.forks who)) }
 {
     let fork = own_named(regs, who, tree)?;
@@ -46,7 +47,7 @@ pub fn sir(regs: &Regs, who: ForkName, tree: &Tree) -> Result<End<InterruptChang
 /// NO_INFERIOR.
 pub fn eir(regs: &Regs, who: ForkName, tree: &Tree) -> Result<End<InterruptChange>, u32>
     requires { IsRegs regs.now }
-    ensures turn { given result ends ≡ eir_of (asked who regs.now tree.now) }
+    ensures turn { given result ends ≡ numbered interrupt_calls EIR (asked who regs.now tree.now) }
     ensures fits { IfOk result (FitsEnd (IsChange tree.now.forks who)) }
 {
     let fork = own_named(regs, who, tree)?;
@@ -57,7 +58,7 @@ pub fn eir(regs: &Regs, who: ForkName, tree: &Tree) -> Result<End<InterruptChang
 /// DIR: the interrupts of the caller or an inferior are off. NO_HANDLE, NO_INFERIOR.
 pub fn dir(regs: &Regs, who: ForkName, tree: &Tree) -> Result<End<InterruptChange>, u32>
     requires { IsRegs regs.now }
-    ensures turn { given result ends ≡ dir_of (asked who regs.now tree.now) }
+    ensures turn { given result ends ≡ numbered interrupt_calls DIR (asked who regs.now tree.now) }
     ensures fits { IfOk result (FitsEnd (IsChange tree.now.forks who)) }
 {
     let fork = own_named(regs, who, tree)?;
@@ -69,7 +70,7 @@ pub fn dir(regs: &Regs, who: ForkName, tree: &Tree) -> Result<End<InterruptChang
 /// pending. NO_HANDLE, NO_INFERIOR.
 pub fn aic(regs: &Regs, who: ForkName, tree: &Tree) -> Result<End<InterruptChange>, u32>
     requires { IsRegs regs.now }
-    ensures turn { given result ends ≡ aic_of (asked who regs.now tree.now) }
+    ensures turn { given result ends ≡ numbered interrupt_calls AIC (asked who regs.now tree.now) }
     ensures fits { IfOk result (FitsEnd (IsChange tree.now.forks who)) }
 {
     let fork = own_named(regs, who, tree)?;
@@ -115,7 +116,7 @@ fn posting(fork: Fork, channels: Word, who: ForkName) -> InterruptChange
 /// IIC: the channels of accumulator 2 are posted to the caller or an inferior, in rising order. NO_HANDLE, NO_INFERIOR.
 pub fn iic(regs: &Regs, who: ForkName, tree: &Tree) -> Result<End<InterruptChange>, u32>
     requires { IsRegs regs.now }
-    ensures turn { given result ends ≡ iic_of (asked who regs.now tree.now) }
+    ensures turn { given result ends ≡ numbered interrupt_calls IIC (asked who regs.now tree.now) }
     ensures fits { IfOk result (FitsEnd (IsChange tree.now.forks who)) }
 {
     let fork = own_named(regs, who, tree)?;

@@ -1,5 +1,5 @@
 -- What is so of interrupts, in the words of who uses them.
-use Rattle.std.specs.Prelude.{◌≡◌, ◌≢◌, ◌⊎◌, ℕ, ◌-◌, ◌<◌, ◌≤◌, true, false, Some, slice_set}
+use Rattle.std.specs.Prelude.{◌≡◌, ◌≢◌, ◌⊎◌, ℕ, ◌-◌, ◌<◌, ◌≤◌, true, false, Some, slice_set, Bool, slice_index_or}
 use Rattle.std.specs.declared.cmp.Ordering.{Ordering}
 use Rattle.word36.specs.Words.{left, right}
 use Rattle.machine_names.specs.declared.names.ForkName.{ForkName}
@@ -13,8 +13,12 @@ use Rattle.plain_model.specs.declared.interrupt.Delivery.{Delivery}
 use Rattle.plain_model.specs.declared.interrupt.Found.{Found}
 use Rattle.plain_model.specs.declared.interrupt.Inspected.TheVariants as inspected
 use Rattle.plain_model.specs.declared.interrupt.TheConstants.{CHANNELS, LEVELS}
-use Rattle.plain_model.specs.Inspections.{channel_at, goes_before, in_progress, inspected as inspected_on, inspected_by, is_wanted, least_level}
+use Rattle.plain_model.specs.Inspections.{channel_at, goes_before, inspected as inspected_on, inspected_by, is_wanted, least_level}
 use Rattle.plain_model.specs.Interrupts.{has_channel}
+
+-- whether a level, 1 to 3, is in progress
+abbrev pub in_progress : Psi → ℕ → Bool
+in_progress psi level = slice_index_or psi.levels (level - 1) false
 
 -- A CHANNEL IS TAKEN UP: it is no more pending, its level is in progress, and so is what was, and no other
 pub record IsTakenUp (old new : Psi) (taken : Found) : Type 0 where

@@ -15,7 +15,6 @@ use Rattle.page_contracts.specs.Stores.{FitsHomes, free}
 use Rattle.script_texts.specs.Taker.{GoesOn}
 use Rattle.script_texts.specs.Script.{IsScript}
 use Rattle.script_texts.specs.Texts.{transcript, entries_text, record_text}
-use Rattle.plain_laws.proofs.Named.{opened_fit}
 use Rattle.flat_pages.proofs.StoredPlaces.{zeros_fit}
 use Rattle.command_words.specs.declared.request.EventSource.{EventSource}
 use Rattle.command_words.specs.declared.request.EventSource.TheVariants.{Script as ReadScript, Generated}
@@ -37,10 +36,11 @@ use Rattle.tenex_console.specs.declared.driver.Driven.{Driven}
 use Rattle.tenex_console.specs.declared.driver.Driven.TheVariants.{Done as WholeScript, Bad, Long, ReadFault as Unread, DrumFault as Unpaged, TakerFault}
 use Rattle.tenex_console.specs.Runs.{AreBroken, AreEntries, RunsTo, ShowsTo}
 use Rattle.tenex_console.specs.Driving.{Handed, IsBooted, OpensOver, RanTo}
-use Rattle.tenex_console.specs.Headline.{DrivenTo, Fronts, Headline, IsRunOf, Part, Stops, closing, generated_transcript, last_after, last_done, script_transcript, status_of}
+use Rattle.tenex_console.specs.Headline.{DrivenTo, Fronts, Headline, IsRunOf, Part, Stops, closing, generated_transcript, last_after, last_done, status_of}
 use Rattle.tenex_console.specs.Verdicts.{AreRun}
 use Rattle.tenex_console.specs.Observed.{Observed, seen}
 use Rattle.tenex_console.specs.Statuses.{Ran, status_after}
+use Rattle.tenex_console.proofs.Spelled.{all_spelled}
 
 -- what grew by bytes and no more grew by these bytes
 grows_alone : (old new : Option (List ℕ)) (bytes : List ℕ) → Grows old new (bytes ++ []) → Grows old new bytes
@@ -211,7 +211,8 @@ module _ {M S T R D : Type 0} {flat : Bool} {fits : M → DrumWords → Type 0} 
           fair = entries.fair;
           transcript_is = subst (λ items. Grows told.out told.out_after (text items ran.entries)) entries.shown grows;
           record_is = whole_record request.events ran.entries ends.rec;
-          fits = record { fit = opened_fit true request.sizes.drum ran.events ran.entries ran.fit entries.follows entries.legal; few = omega (arith, ran.few); few_reads = few_reads; few_writes = few_writes };
+          spelled = all_spelled ran.events ran.fit;
+          few = (omega (arith, ran.few), few_reads, few_writes);
         }
 
     headline : (events : EventSource) → request.events ≡ events → Headline events request.sizes.drum told
@@ -221,7 +222,7 @@ module _ {M S T R D : Type 0} {flat : Bool} {fits : M → DrumWords → Type 0} 
           let found = (subst (λ e. AreRun e told.script told.script_after WholeScript ran.events) is ran.found).each bytes left_are in
           let all : found.0 ≡ bytes = sym (found.2 ∙ (ap (λ rest. found.0 ++ rest) found.4.1 ∙ append-nil found.0)) in
           (subst (λ b. IsScript b ran.events) all found.4.0, found.3 ∙ ap Some found.4.1);
-      run = run_of script_transcript (grows_alone told.out told.out_after (transcript shown) (subst (λ e. Grows told.out told.out_after (transcript shown ++ end_line (last_done e told.reads told.writes) v.tally)) is ends.out));
+      run = run_of (λ items entries. transcript items) (grows_alone told.out told.out_after (transcript shown) (subst (λ e. Grows told.out told.out_after (transcript shown ++ end_line (last_done e told.reads told.writes) v.tally)) is ends.out));
     }
     headline (Generated seed) is =
         let found = subst (λ e. AreRun e told.script told.script_after WholeScript ran.events) is ran.found in

@@ -16,6 +16,7 @@ use Rattle.command_words.specs.Words.{Ask}
 use Rattle.tenex_console.specs.Headline.{HasHeadline, Headline, IsRunOf}
 use Rattle.tenex_console.specs.Memory.{AreSpelled, HeadlineInBytes, whole_transcript}
 use Rattle.tenex_console.specs.Observed.{Observed}
+use Rattle.tenex_console.proofs.Spelled.{record_fits}
 
 -- bytes that are told have these behind them
 told_grows : (xs ys bytes : List ℕ) → Grows (Some xs) (Some ys) bytes → ys ≡ xs ++ bytes
@@ -52,7 +53,7 @@ module _ {Z : Type 0} (words : List (String Z)) (script : List ℕ) (left left' 
           subst (λ e. out'.bytes.items ≡ out.bytes.items ++ whole_transcript e items run.entries) (sym is)
           (subst (λ bytes. out'.bytes.items ≡ out.bytes.items ++ bytes) (same items run.entries) (told_grows out.bytes.items out'.bytes.items (text items run.entries) run.transcript_is));
       record_is = told_grows rec.bytes.items rec'.bytes.items _ run.record_is;
-      fits = run.fits;
+      fits = record_fits events text request.sizes.drum told run;
     }
 
   by_source : (request : Request) → Ask words request → (source : EventSource) → request.events ≡ source → Headline source request.sizes.drum told → HeadlineInBytes words script out out' rec rec' drum drum'

@@ -12,10 +12,11 @@ use Rattle.command_words.specs.declared.request.EventSource.TheVariants.{Script,
 use Rattle.tenex_console.specs.Headline.{HasHeadline, Headline, IsRunOf, entries_of}
 use Rattle.tenex_console.specs.Isolation.{HasIsolation}
 use Rattle.tenex_console.specs.Observed.{Observed}
+use Rattle.tenex_console.proofs.Spelled.{record_fits}
 
 module _ (limit : ℕ) (told : Observed) where
   sees : (events : List Event) (text : List Item → List Step → List ℕ) (run : IsRunOf events text limit told) → AllSeeTheirOwn limit run.entries
-  sees events text run = all_see_their_own limit run.entries run.fits.fit (legal_can_run true (opening limit) run.entries run.legal)
+  sees events text run = all_see_their_own limit run.entries (record_fits events text limit told run).fit (legal_can_run true (opening limit) run.entries run.legal)
 
   by_source : (events : EventSource) (headline : Headline events limit told) → AllSeeTheirOwn limit (entries_of events limit told headline)
   by_source Script headline = sees _ _ headline.run

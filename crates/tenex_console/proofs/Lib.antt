@@ -11,3 +11,4 @@ mod Isolation
 mod Causes
 mod Drums
 mod Statuses
+pub mod Spelled

@@ -1,21 +1,20 @@
 -- What a run reads and writes, on each way in which it ends.
-use Rattle.std.specs.Prelude.{◌≡◌, ◌⊎◌, ℕ, List, [], ◌++◌, true, Option, None, Some, String}
+use Rattle.std.specs.Prelude.{◌≡◌, ◌⊎◌, ℕ, List, [], ◌++◌, true, Option, None, Some, String, map, string_bytes, All, length, ◌<◌, ◌^◌}
 use Rattle.outside.specs.Told.{Grows, Stays}
 use Rattle.script_texts.specs.declared.event.Event.{Event}
 use Rattle.script_texts.specs.declared.event.Item.{Item}
 use Rattle.script_texts.specs.declared.event.Step.{Step}
 use Rattle.plain_model.specs.State.{opening}
-use Rattle.script_texts.specs.Entries.{FitsRecord}
 use Rattle.script_texts.specs.Follows.{Follows}
 use Rattle.plain_model.specs.Passing.{AreFair}
 use Rattle.plain_model.specs.Run.{AreLegal, items_of}
-use Rattle.script_texts.specs.Script.{IsScript}
+use Rattle.script_texts.specs.Script.{IsScript, Spells}
 use Rattle.script_texts.specs.Texts.{transcript, entries_text, record_text}
 use Rattle.script_lang.specs.Generator.{big_events}
 use Rattle.command_words.specs.declared.request.EventSource.{EventSource}
 use Rattle.command_words.specs.declared.request.EventSource.TheVariants.{Script as ReadScript, Generated}
 use Rattle.command_words.specs.declared.request.Request.{Request}
-use Rattle.command_words.specs.Words.{Ask}
+use Rattle.command_words.specs.Words.{Ask, AskOf}
 use Rattle.texts.specs.declared.last.Status.{Status}
 use Rattle.texts.specs.declared.last.Status.TheVariants.{Usage, Script, DrumFault, Memory, ReadFault, WriteFault, LongScript}
 use Rattle.texts.specs.declared.last.Last.{Last}
@@ -34,8 +33,9 @@ use Rattle.tenex_console.specs.Runs.{FollowsTo, ShowsTo}
 
 -- THE MACHINE'S RUN: the entries that the record has are those of the events, in order, each RUN n being n units of forks that can
 -- run, or idle entries while none can; a fork that can run is not passed over for long within a RUN; and the transcript is a text of
--- what the plain machine shows over the entries. No other entries have this record, whose last line tells how often the drum was read
--- and written.
+-- what the plain machine shows over the entries. The record's last line tells how often the drum was read and written. The events are
+-- such as lines spell, and there are fewer entries, reads and writes than 2^64: so no other entries have this record
+-- (`a_record_is_of_one_run`).
 pub record IsRunOf (events : List Event) (text : List Item → List Step → List ℕ) (limit : ℕ) (told : Observed) : Type 0 where
   pub entries : List Step
   pub follows : Follows events entries
@@ -43,17 +43,14 @@ pub record IsRunOf (events : List Event) (text : List Item → List Step → Lis
   pub fair : AreFair (opening limit) events entries follows
   pub transcript_is : Grows told.out told.out_after (text (items_of (opening limit) entries) entries)
   pub record_is : Grows told.rec told.rec_after (record_text entries told.reads told.writes)
-  pub fits : FitsRecord entries told.reads told.writes
-
--- the transcript of a script
-abbrev pub script_transcript : List Item → List Step → List ℕ
-script_transcript items entries = transcript items
+  pub spelled : All (λ e. (line : List ℕ) × Spells line e) events
+  pub few : (length entries < 2 ^ 64) × (told.reads < 2 ^ 64) × (told.writes < 2 ^ 64)
 
 -- THE HEADLINE OF run: the events are those of the script, which is read to its end
 pub record RunsScript (limit : ℕ) (told : Observed) : Type 0 where
   pub events : List Event
   pub all : (bytes : List ℕ) → told.script ≡ Some bytes → IsScript bytes events × (told.script_after ≡ Some [])
-  pub run : IsRunOf events script_transcript limit told
+  pub run : IsRunOf events (λ items entries. transcript items) limit told
 
 -- the transcript of a generated script: behind that of a script stands the line of its counts
 abbrev pub generated_transcript : List Item → List Step → List ℕ
@@ -76,7 +73,7 @@ entries_of (Generated seed) limit told headline = headline.run.entries
 
 -- the words ask for a run, of which the headline holds
 abbrev pub HasHeadline : {Z : Type 0} → List (String Z) → Observed → Type 0
-HasHeadline words told = (request : Request) × Ask words request × Headline request.events request.sizes.drum told
+HasHeadline words told = (request : Request) × AskOf (map string_bytes words) request × Headline request.events request.sizes.drum told
 
 -- The events were driven so far over all pages in memory: these events, their legal entries, and what was shown.
 pub record DrivenTo (driven : Driven) (request : Request) (told : Observed) : Type 0 where

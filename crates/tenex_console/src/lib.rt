@@ -10,9 +10,11 @@ mod driver;
 mod faultless;
 mod generated;
 mod in_memory;
+mod laws;
 mod lines;
 
 pub use call::tenex;
 pub use faultless::run_faultless;
 pub use in_memory::run_in_memory;
+pub use laws::a_record_is_of_one_run;
 pub use texts::Status;

@@ -1,14 +1,14 @@
 -- The bytes of a text, one behind the other.
 use Rattle.std.proofs.Common.{◌≡◌, ℕ, suc, ◌+◌, ◌-◌, ◌<◌, ◌≤◌, false, Option, List, [], ◌∷◌, ◌++◌, None, Some, refl, sym, ◌∙◌, ap, arith}
-use Rattle.std.specs.Prelude.{Result, Ok, Err, ◌==◌}
+use Rattle.std.specs.Prelude.{Result, Ok, Err, ◌==◌, if◌then◌else◌}
 use Rattle.arrayvec.specs.ArrayVec.{ArrayVec}
 use Rattle.word36.specs.Words.{right}
 use Rattle.word36.specs.Bytes.{incremented, loaded}
 use Rattle.machine_names.specs.declared.names.ForkName.{ForkName}
 use Rattle.page_contracts.specs.declared.answers.Need.{Need}
 use Rattle.plain_units.specs.declared.registers.Regs.{Regs}
-use Rattle.plain_model.specs.PointedTexts.{TextReading, byte_read, bytes_from}
-use Rattle.plain_model.specs.Readings.{word_steps, words}
+use Rattle.plain_model.specs.PointedTexts.{bytes_from}
+use Rattle.plain_model.specs.Readings.{word_steps, words, Reading, read}
 use Rattle.ka10_unit.specs.declared.taken.Stop.{Stop}
 use Rattle.ka10_unit.specs.Gathers.{Framed}
 use Rattle.text_pointers.specs.declared.reader.Reader.{Reader}
@@ -18,6 +18,10 @@ use Rattle.text_pointers.specs.Reading.{ReadsBytes, ReadsWord, Stands, pages_so_
 
 one_more : (n i : ℕ) → i < n → n - i ≡ suc (n - (i + 1))
 one_more n i h = omega arith
+
+-- a byte that is 0 ends a text; another is one more of it
+abbrev pub byte_read : ℕ → List ℕ → (List ℕ → Reading (Option (List ℕ))) → Reading (Option (List ℕ))
+byte_read byte text next = if byte == 0 then read (Some text) else next (text ++ byte ∷ [])
 
 -- the first of some bytes
 pub byte_first : (n : ℕ) (regs : Regs) (pointer : ℕ) (text : List ℕ) → bytes_from (suc n) regs pointer text ≡ words (word_steps regs (right pointer)) (λ w. byte_read (loaded pointer w) text (bytes_from n regs (incremented pointer)))
@@ -47,7 +51,7 @@ module _ (f : ForkName) (p : Framed) (regs : Regs) (old : Reader) (first : ℕ) 
 
   module _ (r new : Reader) (i pointer : ℕ) (text : List ℕ) (less : i < 40) (before : ReadsSoFar r i pointer text) where
     -- what is left behind a word
-    abbrev Rest : ℕ → TextReading
+    abbrev Rest : ℕ → Reading (Option (List ℕ))
     Rest w = byte_read (loaded pointer w) text (bytes_from (40 - (i + 1)) regs (incremented pointer))
 
     behind : (result : Result ℕ Stop) → ReadsWord f p regs r new (right pointer) result → Whole ≡ went_on result (λ w. read_over f p regs (Rest w) (pages_so_far p new))

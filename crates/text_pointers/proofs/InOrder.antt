@@ -9,11 +9,11 @@ use Rattle.plain_units.specs.declared.registers.Regs.{Regs}
 use Rattle.plain_pages.specs.PlainPages.{NumberedPages}
 use Rattle.plain_units.specs.Addressing.{address, address_within, index_field, is_indirect}
 use Rattle.plain_units.specs.Steps.{plainly, run}
-use Rattle.plain_model.specs.PointedTexts.{address_steps, byte_read, bytes_from, full_pointer, pointing_to}
+use Rattle.plain_model.specs.PointedTexts.{address_steps, bytes_from, full_pointer, pointing_to}
 use Rattle.plain_model.specs.Readings.{words}
 use Rattle.text_pointers.specs.Outcomes.{leaves, read_on, reads}
 use Rattle.text_pointers.specs.Laws.{IsReady, ReadsInOrder, StandsFrom, word_in}
-use Rattle.text_pointers.proofs.Bytes.{byte_first}
+use Rattle.text_pointers.proofs.Bytes.{byte_first, byte_read}
 use Rattle.text_pointers.proofs.WordReads.{word_goes}
 
 not_zero : (byte : ℕ) → byte ≢ 0 → (byte == 0) ≡ false

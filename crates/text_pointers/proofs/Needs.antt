@@ -23,7 +23,7 @@ use Rattle.plain_pages.specs.Room.{live}
 use Rattle.plain_units.specs.Addressing.{address, address_within, indexed, is_indirect}
 use Rattle.plain_units.specs.Steps.{Asked, Ending, Progress, Steps, asked_at, begun, calls, done, call, ends as steps_end, goes, goes_on as steps_go, is_accumulator, keeps, need, pages_left, put_into, referred, refers, run, stopped, stops as asked_stops, trap, traps, widens, word_taken}
 use Rattle.plain_model.specs.Calls.{Turn, takes}
-use Rattle.plain_model.specs.PointedTexts.{byte_at, bytes_from, full_pointer, pointing_to, text_at, with_text}
+use Rattle.plain_model.specs.PointedTexts.{byte_at, bytes_from, full_pointer, pointing_to, text_at}
 use Rattle.plain_model.specs.Readings.{Reading, ends_with, read, with_reading, words}
 use Rattle.page_gather.specs.declared.reference.Added.TheVariants as added
 use Rattle.page_gather.specs.Gathering.{answered, came_to, left_by, most_framed, page_or}
@@ -235,7 +235,7 @@ module _ {F C : Type 0} (Needs : Scene → NumberedPages → Turn F C → Type 0
   StepsFirst = (scene : Scene) (q : NumberedPages) (steps : Steps) (rest : Ending → Turn F C) → StepsNeed scene q f regs steps (λ after r e. Needs after r (rest e)) n → Needs scene q (takes f regs steps rest)
 
   -- so does one that reads a text
-  pub text_needs : (next : Option (List ℕ) → Turn F C) → StepsFirst → (p : Framed) (pointer : ℕ) → read_over f p regs (text_at regs pointer) p.pages ≡ stops (need n) → Needs p.scene p.pages (with_text f regs pointer next)
+  pub text_needs : (next : Option (List ℕ) → Turn F C) → StepsFirst → (p : Framed) (pointer : ℕ) → read_over f p regs (text_at regs pointer) p.pages ≡ stops (need n) → Needs p.scene p.pages (with_reading f regs (text_at regs pointer) next)
   text_needs next first p pointer h = read_needs Needs f regs n next first p (text_at regs pointer) (text_only regs pointer) h
 
   -- and one that reads a byte

@@ -1,11 +1,11 @@
 -- The reading of a whole text: its address, and then its bytes.
 use Rattle.std.proofs.Common.{◌≡◌, ℕ, [], Option, None, sym, ◌∙◌, subst}
-use Rattle.std.specs.Prelude.{Result, Ok, Err}
+use Rattle.std.specs.Prelude.{Result, Ok, Err, List}
 use Rattle.arrayvec.specs.ArrayVec.{ArrayVec}
 use Rattle.word36.specs.Bytes.{incremented}
 use Rattle.machine_names.specs.declared.names.ForkName.{ForkName}
 use Rattle.plain_units.specs.declared.registers.Regs.{Regs}
-use Rattle.plain_model.specs.PointedTexts.{TextReading, bytes_from, full_pointer, pointing_to, text_at}
+use Rattle.plain_model.specs.PointedTexts.{bytes_from, full_pointer, pointing_to, text_at}
 use Rattle.ka10_deeds.specs.declared.word_fields.Address.{Address}
 use Rattle.ka10_unit.specs.declared.taken.Taken.{Taken}
 use Rattle.ka10_unit.specs.declared.taken.Stop.{Stop}
@@ -17,6 +17,7 @@ use Rattle.text_pointers.specs.Outcomes.{read_over}
 use Rattle.text_pointers.specs.Reading.{ReadsBytes, ReadsText, Stands, came_to}
 use Rattle.text_pointers.proofs.AddressReads.{address_goes, address_stops}
 use Rattle.text_pointers.proofs.Plainly.{plain_of}
+use Rattle.plain_model.specs.Readings.{Reading}
 
 module _ (f : ForkName) (p : Framed) (regs : Regs) (pointer : ℕ) where
   -- the pointer to the first byte
@@ -24,7 +25,7 @@ module _ (f : ForkName) (p : Framed) (regs : Regs) (pointer : ℕ) where
   First = incremented (full_pointer pointer)
 
   -- what is left behind an address
-  abbrev Rest : ℕ → TextReading
+  abbrev Rest : ℕ → Reading (Option (List ℕ))
   Rest e = bytes_from 40 regs (pointing_to First e) []
 
   text_as : (new : Reader) (result : Result (Option (ArrayVec ℕ)) Stop) → ((text : Option (ArrayVec ℕ)) → result ≡ Ok text → Stands f p new) → read_over f p regs (text_at regs pointer) p.pages ≡ came_to p new result → ReadsText f p regs pointer new result

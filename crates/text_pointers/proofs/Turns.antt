@@ -10,7 +10,7 @@ use Rattle.plain_pages.specs.PlainPages.{NumberedPages}
 use Rattle.plain_units.specs.Blocks.{steps_on}
 use Rattle.plain_units.specs.Steps.{Planned, call, done, need, pages_left, stopped, trap}
 use Rattle.plain_model.specs.Calls.{Came, Sight, Turn, stepped, turn_on}
-use Rattle.plain_model.specs.PointedTexts.{byte_at, text_at, with_text}
+use Rattle.plain_model.specs.PointedTexts.{byte_at, text_at}
 use Rattle.plain_model.specs.Readings.{Reading, read, with_reading, words}
 use Rattle.ka10_unit.specs.declared.taken.Stop.TheVariants.{Trap}
 use Rattle.ka10_unit.specs.Gathers.{Framed}
@@ -41,12 +41,12 @@ module _ {F C A : Type 0} (sight : Sight F ℕ) (f : ForkName) (regs : Regs) (ne
 module _ {F C : Type 0} (sight : Sight F ℕ) (f : ForkName) (regs : Regs) where
   module _ (next : Option (List ℕ) → Turn F C) (p : Framed) (pointer : ℕ) where
     -- it goes on with the text
-    pub text_goes : (r : Reader) (text : Option (ArrayVec ℕ)) → ReadsText f p regs pointer r (Ok text) → turn_on sight p.pages (with_text f regs pointer next) ≡ turn_on sight (pages_so_far p r) (next (bytes_of text))
-    text_goes r text h = subst (TurnsTo sight f regs next (turn_on sight p.pages (with_text f regs pointer next))) h.plain (turn_reads sight f regs next (text_at regs pointer) p.pages)
+    pub text_goes : (r : Reader) (text : Option (ArrayVec ℕ)) → ReadsText f p regs pointer r (Ok text) → turn_on sight p.pages (with_reading f regs (text_at regs pointer) next) ≡ turn_on sight (pages_so_far p r) (next (bytes_of text))
+    text_goes r text h = subst (TurnsTo sight f regs next (turn_on sight p.pages (with_reading f regs (text_at regs pointer) next))) h.plain (turn_reads sight f regs next (text_at regs pointer) p.pages)
 
     -- it traps
-    pub text_traps : (r : Reader) (channel : ℕ) → ReadsText f p regs pointer r (Err (Trap channel)) → (turn_on sight p.pages (with_text f regs pointer next)).end ≡ TrapEnd channel
-    text_traps r channel h = subst (TurnsTo sight f regs next (turn_on sight p.pages (with_text f regs pointer next))) h.plain (turn_reads sight f regs next (text_at regs pointer) p.pages)
+    pub text_traps : (r : Reader) (channel : ℕ) → ReadsText f p regs pointer r (Err (Trap channel)) → (turn_on sight p.pages (with_reading f regs (text_at regs pointer) next)).end ≡ TrapEnd channel
+    text_traps r channel h = subst (TurnsTo sight f regs next (turn_on sight p.pages (with_reading f regs (text_at regs pointer) next))) h.plain (turn_reads sight f regs next (text_at regs pointer) p.pages)
 
   module _ (next : ℕ → Turn F C) (p : Framed) (pointer : ℕ) where
     -- it goes on with the byte

@@ -5,7 +5,7 @@ use Rattle.plain_model.specs.declared.call.ForkChange.TheVariants.{Become}
 use Rattle.machine_names.specs.declared.names.Kind.TheVariants.{Read}
 use Rattle.plain_model.specs.Calls.{ends}
 use Rattle.plain_units.specs.declared.registers.Regs.{Regs}
-use Rattle.plain_model.specs.ForkCalls.{address_named, with_accumulators_of}
+use Rattle.plain_model.specs.ForkCalls.{address_named}
 use Rattle.call_turns.specs.Answers.{AnswerNeeds, IsDone, answer_of}
 use Rattle.ka10_unit.specs.Gathers.{framed}
 use Rattle.ka10_unit.specs.Taking.{read_frames}
@@ -49,7 +49,7 @@ returns-in-Ok-clause-told g c d fits =
       t.0,
       inl (block_goes (parts c.args.tree.now p) (parts c.set_body.new.tree q) c.returned.result c.args.who c.args.regs.now (address_named c.args.regs.now) Read q words on (λ ws. set_end a c.args.fork ws) _ _ refl
           (c.set_body.ensures.told q)
-          (c.returned.ensures.answer (Become c.args.fork.name (with_accumulators_of c.args.fork.body words)) ∙ ap (λ (r : Regs). answer_of (Done (Become c.args.fork.name (with_accumulators_of c.args.fork.body words)) r None None)) c.behind.ensures.behind)),
+          (c.returned.ensures.answer (Become c.args.fork.name (record c.args.fork.body { regs = record c.args.fork.body.regs { ac = words } })) ∙ ap (λ (r : Regs). answer_of (Done (Become c.args.fork.name (record c.args.fork.body { regs = record c.args.fork.body.regs { ac = words } })) r None None)) c.behind.ensures.behind)),
     )
 
 pub returns-in-Err-clause-leaves : goal.returns-in-Err-clause-leaves

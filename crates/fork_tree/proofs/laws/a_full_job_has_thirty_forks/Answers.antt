@@ -2,13 +2,14 @@ use Rattle.std.proofs.Common.{◌≡◌, refl, arith, Bool, true, false, Option,
 use Rattle.std.specs.Prelude.{is_none, nat_lt, if◌then◌else◌}
 use Rattle.plain_model.specs.Forks.{fork_in}
 use Rattle.machine_names.specs.declared.names.TheConstants.{LAST_SERIAL}
-use Rattle.plain_model.specs.Trees.{free_slot, is_free, next_serial}
+use Rattle.plain_model.specs.Trees.{free_slot, next_serial}
 use Rattle.fork_tree.specs.declared.tree.NoFork.TheVariants.{ForksFull, SerialsOut}
 use Rattle.fork_tree.proofs.Kept.{full_room}
 use Rattle.fork_tree.proofs.Listed.{full_listed, listed_full, listed_has, listed_most}
 use Rattle.fork_tree.proofs.Ranges.{first_none, none_tells}
 use Rattle.fork_tree.proofs.Slots.{in_found}
 use Rattle.fork_tree.proofs.laws.a_full_job_has_thirty_forks.Goals as goal
+use Rattle.plain_model.proofs.Shorthands.{is_free}
 
 pub returns-clause-most : goal.returns-clause-most
 returns-clause-most c = λ forks t. listed_most (fork_in forks t) 1 30

@@ -5,7 +5,7 @@ use Rattle.plain_model.specs.Forks.{fork_in}
 use Rattle.machine_names.specs.declared.names.Tty.{Tty}
 use Rattle.machine_names.specs.declared.names.ForkName.{ForkName}
 use Rattle.machine_names.specs.declared.names.TheConstants.{MOST_FORKS}
-use Rattle.plain_model.specs.Trees.{free_slot, is_free, new_fork, next_name, PlainTree}
+use Rattle.plain_model.specs.Trees.{free_slot, new_fork, next_name, PlainTree}
 use Rattle.fork_tree.specs.declared.tree.NoFork.TheVariants.{ForksFull}
 use Rattle.fork_tree.specs.Making.{room_for, with_new, with_new_in}
 use Rattle.fork_tree.specs.Trees.{IsTree}
@@ -13,6 +13,7 @@ use Rattle.fork_tree.proofs.Kept.{free_none, full_room, name_unused}
 use Rattle.fork_tree.proofs.Ranges.{first_tells}
 use Rattle.fork_tree.proofs.Slots.{get_put, get_put_other, in_found}
 use Rattle.fork_tree.proofs.laws.a_made_fork_is_found.Goals as goal
+use Rattle.plain_model.proofs.Shorthands.{is_free}
 
 -- a job with room has a free slot
 has_free : (tree : PlainTree) (t : Tty) → room_for tree t ≡ Ok tt → (slot : ℕ) × (free_slot tree.forks t ≡ Some slot)

@@ -2,9 +2,10 @@ use Rattle.std.proofs.Common.{◌≡◌, IsSome, inl, inr, subst, sym}
 use Rattle.word36.specs.Arithmetic.{arithmetic}
 use Rattle.word36.specs.Boolean.{boolean_of}
 use Rattle.ka10_table.specs.declared.families.Family.{Family}
-use Rattle.plain_units.specs.Deeds.{Operands, deed_of, done_by, in_ac, operand_of, operands, taken_by, taken_of}
+use Rattle.plain_units.specs.Deeds.{Operands, deed_of, in_ac, operand_of, operands, taken_by, taken_of}
 use Rattle.ka10_deeds.specs.Done.{store_at, stored_word}
 use Rattle.ka10_deeds.proofs.operands.destination_of.Goals as goal
+use Rattle.plain_units.proofs.Shorthands.{done_by}
 
 pub returns-in-Imul-clause-value : goal.returns-in-Imul-clause-value
 unfolding deed_of

@@ -7,7 +7,7 @@ use Rattle.plain_units.specs.declared.channel.TheConstants.{ILLEGAL_INSTRUCTION}
 use Rattle.plain_units.specs.declared.registers.Regs.{Regs}
 use Rattle.plain_pages.specs.PlainPages.{NumberedPages}
 use Rattle.plain_model.specs.Calls.{behind_call, ends, no_files, numbered, turn_on}
-use Rattle.plain_model.specs.Families.{print_calls, prints}
+use Rattle.plain_model.specs.Families.{print_calls}
 use Rattle.call_turns.specs.Answers.{answer_of}
 use Rattle.monitor_calls.proofs.calls.print_call.Goals as goal
 
@@ -19,7 +19,7 @@ module _ (number : ℕ) (regs : Regs) (p : NumberedPages) where
 
   trapped : (PBOUT ≡ number → ⊥) → (turn_on no_files p (numbered print_calls number regs)).end ≡ Trap ILLEGAL_INSTRUCTION
   unfolding turn_on
-  trapped other = ap (λ b. (turn_on no_files p (cond b (prints regs) (ends (Trap ILLEGAL_INSTRUCTION)))).end) (ne_eqb PBOUT number other)
+  trapped other = ap (λ b. (turn_on no_files p (cond b (ends (Done tt (behind_call regs) (Some (slice_index regs.ac 1 % 128)) None)) (ends (Trap ILLEGAL_INSTRUCTION)))).end) (ne_eqb PBOUT number other)
 
 pub returns-then-number-eq-PBOUT-clause-told : goal.returns-then-number-eq-PBOUT-clause-told
 returns-then-number-eq-PBOUT-clause-told c p = c.pbout.ensures.told ∙ sym (ap answer_of (printed c.args.number c.args.regs.now p c.if-number-eq-PBOUT.true))

@@ -1,9 +1,9 @@
 use Rattle.std.proofs.Common.{◌∙◌, ap, cond, refl}
 use Rattle.plain_model.specs.declared.call.ForkChange.TheVariants.{Nothing}
 use Rattle.plain_model.specs.Calls.{ends, fork_behind, given, no_files, returning, turn_on}
-use Rattle.plain_model.specs.ForkCalls.{waits_for}
 use Rattle.plain_laws.specs.ForkLaws.{waiting}
 use Rattle.plain_laws.proofs.fork_laws.waiters_go_on_when_a_fork_has_ended.Goals as goal
+use Rattle.plain_model.proofs.Shorthands.{waits_for}
 
 pub returns-clause-ended : goal.returns-clause-ended
 unfolding turn_on

@@ -1,12 +1,13 @@
 use Rattle.std.proofs.Common.{◌≡◌, sym, ◌∙◌, ap, subst}
-use Rattle.plain_model.specs.Calls.{ends, numbered}
-use Rattle.plain_model.specs.InterruptCalls.{InterruptTurn, interrupt_calls}
+use Rattle.plain_model.specs.Calls.{ends, numbered, Turn}
+use Rattle.plain_model.specs.InterruptCalls.{interrupt_calls}
 use Rattle.job_forks.specs.Asking.{asked}
 use Rattle.job_forks.proofs.CallLeaving.{none_grown, places_leave}
 use Rattle.psi_calls.specs.Steps.{whole}
 use Rattle.psi_calls.specs.Turning.{Turned}
 use Rattle.psi_calls.proofs.Ended.{ends_turned}
 use Rattle.psi_calls.proofs.turn.call.Goals as goal
+use Rattle.plain_model.specs.declared.call.InterruptChange.{InterruptChange}
 
 pub returns-in-Ends-clause-told : goal.returns-in-Ends-clause-told
 returns-in-Ends-clause-told g c =
@@ -14,7 +15,7 @@ returns-in-Ends-clause-told g c =
     let s = c.args.pages.now in
     let a = asked c.args.who c.args.regs.now c.args.tree.now in
     let turn : ends c.in-Ends.ending ≡ numbered interrupt_calls c.args.number a = ap (whole a) (sym c.in-Ends.is) ∙ c.first.ensures.turn in
-    subst (λ (t : InterruptTurn). Turned means s s c.args.tree.now c.end.new.tree c.args.line.now c.end.new.line c.args.who.tty c.end.result t) turn
+    subst (λ (t : Turn ⊥ InterruptChange). Turned means s s c.args.tree.now c.end.new.tree c.args.line.now c.end.new.line c.args.who.tty c.end.result t) turn
     (ends_turned c.args.tree.now c.end.new.tree c.args.line.now c.end.new.line c.args.who.tty means s c.end.result c.in-Ends.ending c.end.ensures.answer c.end.ensures.told)
 
 pub returns-in-Ends-clause-leaves : goal.returns-in-Ends-clause-leaves

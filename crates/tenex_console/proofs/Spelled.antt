@@ -1,0 +1,39 @@
+-- Events that lines spell are within their limits, and so are their entries: a record of these is that of no others.
+use Rattle.std.proofs.Common.{◌≡◌, ℕ, List, [], ◌∷◌, All, true}
+use Rattle.std.proofs.lemmas.List.Elements.{All-cons, All-head, All-nil, All-tail}
+use Rattle.script_texts.specs.declared.event.Event.{Event}
+use Rattle.script_texts.specs.declared.event.Item.{Item}
+use Rattle.script_texts.specs.declared.event.Step.{Step}
+use Rattle.script_texts.specs.Entries.{FitsRecord}
+use Rattle.script_texts.specs.Limits.{FitsEvent}
+use Rattle.script_texts.specs.Script.{Spells}
+use Rattle.script_texts.specs.Texts.{line_of}
+use Rattle.script_lang.proofs.CanonicalSpells.{spells}
+use Rattle.script_lang.proofs.Spellings.{spelled_fits}
+use Rattle.plain_model.specs.State.{opening}
+use Rattle.plain_model.proofs.Runs.{legal_apart}
+use Rattle.plain_laws.proofs.Named.{opened_fit}
+use Rattle.tenex_console.specs.Headline.{IsRunOf}
+use Rattle.tenex_console.specs.Observed.{Observed}
+
+abbrev pub IsSpelled : Event → Type 0
+IsSpelled e = (line : List ℕ) × Spells line e
+
+pub all_spelled : (es : List Event) → All FitsEvent es → All IsSpelled es
+all_spelled [] fits = All-nil IsSpelled
+all_spelled (e ∷ es) fits = All-cons IsSpelled e es (line_of e, spells e (All-head FitsEvent e es fits)) (all_spelled es (All-tail FitsEvent e es fits))
+
+all_fit : (es : List Event) → All IsSpelled es → All FitsEvent es
+all_fit [] spelled = All-nil FitsEvent
+all_fit (e ∷ es) spelled =
+    let one = All-head IsSpelled e es spelled in All-cons FitsEvent e es (spelled_fits one.0 e one.1) (all_fit es (All-tail IsSpelled e es spelled))
+
+-- what the record of a run can tell
+pub record_fits : (events : List Event) (text : List Item → List Step → List ℕ) (limit : ℕ) (told : Observed) (run : IsRunOf events text limit told)
+    → FitsRecord run.entries told.reads told.writes
+record_fits events text limit told run = record {
+  fit = opened_fit true limit events run.entries (all_fit events run.spelled) run.follows (legal_apart true (opening limit) events run.entries run.follows run.legal);
+  few = run.few.0;
+  few_reads = run.few.1;
+  few_writes = run.few.2;
+}
