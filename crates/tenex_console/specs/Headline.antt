@@ -34,7 +34,7 @@ use Rattle.tenex_console.specs.Runs.{FollowsTo, ShowsTo}
 -- THE MACHINE'S RUN: the entries that the record has are those of the events, in order, each RUN n being n units of forks that can
 -- run, or idle entries while none can; a fork that can run is not passed over for long within a RUN; and the transcript is a text of
 -- what the plain machine shows over the entries. The record's last line tells how often the drum was read and written. The events are
--- such as lines spell, and there are fewer entries, reads and writes than 2^64: so no other entries have this record
+-- such as lines spell, and there are fewer entries, reads and writes than 2^64: so no other entries within their limits have this record
 -- (`a_record_is_of_one_run`).
 pub record IsRunOf (events : List Event) (text : List Item → List Step → List ℕ) (limit : ℕ) (told : Observed) : Type 0 where
   pub entries : List Step
