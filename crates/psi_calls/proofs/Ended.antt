@@ -14,7 +14,7 @@ use Rattle.plain_model.specs.declared.call.End.TheVariants.{Done, Waits, Halts, 
 use Rattle.plain_model.specs.declared.call.InterruptChange.{InterruptChange}
 use Rattle.plain_model.specs.declared.call.InterruptChange.TheVariants.{Become}
 use Rattle.plain_model.specs.declared.fork.Fork.{Fork}
-use Rattle.plain_model.specs.Calls.{Asked, Came, ends, no_files, parts_behind, turn_on, Turn}
+use Rattle.plain_model.specs.Calls.{Asked, Came, ends, no_files, parts_behind, turn_on, Turn as ATurn}
 use Rattle.plain_model.specs.Families.{Parts, interrupts_changed}
 use Rattle.plain_model.specs.FileCalls.{Jobs}
 use Rattle.plain_model.specs.InterruptCalls.{dismissed, restored, without_level, word_stored}
@@ -84,7 +84,7 @@ module _ (a : Asked) (f : Fork) (table level : ℕ) where
   abbrev Ending : ℕ → End InterruptChange
   Ending w = Done (Become f.name (without_level f.body level)) (restored a.regs w) None None
 
-  abbrev Turn : Turn ⊥ InterruptChange
+  abbrev Turn : ATurn ⊥ InterruptChange
   Turn = dismissed a f table level
 
   goes : (p : Framed) (r : Reader) (w : ℕ) → ReadsStored a.who p a.regs table level r (Ok w) → turn_on no_files p.pages Turn ≡ record { end = Ending w; pages = pages_so_far p r }
