@@ -184,6 +184,49 @@ fresh
 printf 'LOGIN 0 A\nRUN 2\nRUN 3' >"$work/script"
 ends "a last line without its end" 2 'T0 @\n?LINE 3\n' 'LOGIN 0 A\nI 2\n' run <"$work/script"
 
+# A line of 256 bytes is a line: 62 characters that are typed as octal digits, which the record has as they are. One byte
+# more is too long.
+said=
+letters=$(printf 'A%.0s' {1..62})
+fresh
+{ printf 'LOGIN 15 A\nTYPE 15 ' && printf '\\101%.0s' {1..62} && echo; } >"$work/script"
+[ "$(tail -n 1 "$work/script" | wc -c)" -eq 257 ] || fail "a line of 256 bytes: the check has another"
+ends "a line of 256 bytes" 0 "T15 @$letters\n" "LOGIN 15 A\nTYPE 15 $letters\nE 0 0\n" run <"$work/script"
+said='tenex: line 2 has more than 256 bytes'
+fresh
+sed -i '2s/$/B/' "$work/script"
+ends "a line of 257 bytes" 2 'T15 @\n?LINE 2\n' 'LOGIN 15 A\n' run <"$work/script"
+
+# The first script cut after each of its bytes. The lines whose line feed stands before the cut are run, and what stands
+# behind the last of these is a bad line. The letter is printed by the RUN, the last line.
+printf 'LOGIN 0 SMITH\nPOKE 0 100 201040000101\nPOKE 0 101 104000000074\nPOKE 0 102 104000000170\nSTART 0 100\nRUN 5\n' >"$work/script"
+size=$(wc -c <"$work/script")
+for ((cut = 0; cut <= size; cut++)); do
+    head -c "$cut" "$work/script" >"$work/front"
+    whole=$(wc -l <"$work/front")
+    record=$(head -n "$whole" "$work/front" | sed '/^RUN/d; s/$/\\n/' | tr -d '\n')
+    out='T0 @\n'
+    [ "$whole" -gt 0 ] || out=
+    if [ "$whole" -eq 6 ]; then
+        out='T0 @A\\015\\012\nT0 @\n'
+        record=$record'U 0 1 3\nI 2\n'
+    fi
+    fresh
+    if [ -z "$(tail -c 1 "$work/front")" ]; then
+        said=
+        ends "the first script cut after $cut bytes" 0 "$out" "${record}E 0 0\n" run <"$work/front"
+    else
+        said="tenex: line $((whole + 1)) does not end with a line feed"
+        ends "the first script cut after $cut bytes" 2 "$out?LINE $((whole + 1))\n" "$record" run <"$work/front"
+    fi
+done
+
+# A script may ask for 2^40 turns, and for no more: 1099511 lines of a million, one of 627776, and one of 1.
+said='tenex: with line 1099513 the script asks for more than 1099511627776 turns'
+fresh
+{ yes 'RUN 1000000' | head -n 1099511; printf 'RUN 627776\nRUN 1\n'; } >"$work/script"
+ends "more turns than a script may ask for" 2 '?LINE 1099513\n' 'I 1099511627776\n' run <"$work/script"
+
 said='tenex: there is no memory'
 fresh
 memory=40000
@@ -232,6 +275,10 @@ answers 'START 3 100\n' '\n?NO JOB 3'
 exec {person_writes}>&-
 wait "$person_PID" || fail "a person who ends the script: status $?"
 
+said=
+fresh
+yes ';234567' | head -c 16777216 >"$work/script"
+ends "a script as long as one may be" 0 '' 'E 0 0\n' run <"$work/script"
 said='tenex: the script has more than'
 fresh
 yes '; a comment' | head -c 16777217 >"$work/script"
@@ -329,6 +376,11 @@ ends "a record that can't be made" 9 '?CANNOT OPEN\n' - run <"$top/examples/firs
 fresh
 ln -s "$work/nowhere/tenex.record" "$work/at/tenex.record"
 ends "a record that is a link to nothing that can be made" 9 '?CANNOT OPEN\n' - run <"$top/examples/first.script"
+fresh
+cases=$((cases + 1))
+(mkdir "$work/at/gone" && cd "$work/at/gone" && rmdir "$work/at/gone" && exec "$program" run) <"$top/examples/first.script" >"$work/out" 2>"$work/messages"
+[ $? -eq 9 ] || fail "a folder that is gone: another status than 9"
+[ "$(cat "$work/out")" = '?CANNOT OPEN' ] && grep -q "^$said" "$work/messages" || fail "a folder that is gone: '$(cat "$work/out" "$work/messages")'"
 said=
 fresh
 ln -s ../elsewhere "$work/at/tenex.record"
