@@ -1,0 +1,8 @@
+//! The deeds of an event of the console: its parts, each of which is done whole or not at all.
+//! To the layers above a character that is typed is its deeds, one behind the other, and any other event is one deed.
+//! Stands on `plain_model` for what events and commands do.
+#![tactic(auto)]
+
+mod deed;
+
+pub use deed::{Deed, Purpose};

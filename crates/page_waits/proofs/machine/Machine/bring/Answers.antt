@@ -1,0 +1,30 @@
+use Rattle.std.proofs.Common.{◌≡◌, ◌+◌, ◌-◌, ◌∙◌, refl, subst, arith}
+use Rattle.std.specs.Prelude.{None, Some}
+use Rattle.page_waits.specs.Acts.{Quiet}
+use Rattle.page_waits.specs.Waits.{the_lists}
+use Rattle.page_waits.proofs.Marks.{marks_then}
+use Rattle.page_waits.proofs.Quieting.{quiet_then, spent}
+use Rattle.page_waits.proofs.machine.Machine.bring.Goals as goal
+
+pub returns-then-left-eq0-clause-spent : goal.returns-then-left-eq0-clause-spent
+returns-then-left-eq0-clause-spent g c is =
+    spent g.S.System.means the_lists g.D.Drum.held (Some c.args.deed.now) None c.loop-waits.waits c.args.self.now.system c.loop-waits.self.system c.args.self.now.lists c.loop-waits.self.lists c.args.drum.now c.loop-waits.drum
+    (subst (λ n. Quiet g.S.System.means the_lists g.D.Drum.held (Some c.args.deed.now) None c.loop-waits.waits (4294967296 - n) c.args.self.now.system c.loop-waits.self.system c.args.self.now.lists c.loop-waits.self.lists c.args.drum.now c.loop-waits.drum) c.if-left-eq0.true c.loop-waits.invariant.quiet)
+    (g.met.S.System.housed c.args.self.now.system)
+
+pub loop-waits-preserved : goal.loop-waits-preserved
+loop-waits-preserved g c =
+    let i = c.loop-waits.invariant in
+    let more : 4294967296 - c.loop-waits.left + 1 ≡ 4294967296 - (c.loop-waits.left - 1) = omega (arith, i.few, c.if-left-eq0.false) in
+    let here = subst (λ w. Quiet g.S.System.means the_lists g.D.Drum.held (Some c.args.deed.now) None w (4294967296 - c.loop-waits.left) c.args.self.now.system c.loop-waits.self.system c.args.self.now.lists c.loop-waits.self.lists c.args.drum.now c.loop-waits.drum) c.in-Some.is i.quiet in
+    record {
+      few = omega (arith, i.few);
+      quiet = subst (λ n. Quiet g.S.System.means the_lists g.D.Drum.held (Some c.args.deed.now) None c.in-Ok-complete_for.after n c.args.self.now.system c.complete_for.new.self.system c.args.self.now.lists c.complete_for.new.self.lists c.args.drum.now c.complete_for.new.drum) more
+          (quiet_then g.S.System.means the_lists g.D.Drum.held (Some c.args.deed.now) None (Some c.in-Some.need) c.in-Ok-complete_for.after (4294967296 - c.loop-waits.left) 1 c.args.self.now.system c.loop-waits.self.system c.complete_for.new.self.system c.args.self.now.lists c.loop-waits.self.lists c.complete_for.new.self.lists c.args.drum.now c.loop-waits.drum c.complete_for.new.drum here
+          (c.in-Ok-complete_for.ensures.quiet c.in-Ok-complete_for.after (Some c.args.deed.now) refl));
+      awaited = c.in-Ok-complete_for.ensures.awaited c.in-Ok-complete_for.after refl;
+      later = omega (arith, i.later, c.complete_for.ensures.later);
+      size = c.complete_for.ensures.size ∙ i.size;
+      within = λ n w. (c.in-Ok-complete_for.ensures.quiet c.in-Ok-complete_for.after (Some c.args.deed.now) refl).told.within n (i.within n w);
+      marks = marks_then c.args.self.now c.loop-waits.self c.complete_for.new.self i.marks c.complete_for.ensures.marks;
+    }

@@ -1,0 +1,19 @@
+use Rattle.std.proofs.Common.{◌≡◌, ℕ, ◌+◌, ◌≤◌, cond, is_some}
+use Rattle.std.specs.Prelude.{None, Some}
+use Rattle.page_waits.specs.Acts.{Quiet, told_work}
+use Rattle.page_waits.specs.Machines.{KeepsMarks}
+use Rattle.page_waits.specs.Waits.{AreAwaited, waits_with, the_lists}
+use Rattle.page_waits.proofs.machine.Machine.bring_told.Given as goal
+
+abbrev pub invariant-loop-waits : goal.invariant-loop-waits
+invariant-loop-waits g l = record {
+  quiet : Quiet g.S.System.means the_lists g.D.Drum.held (Some l.deed) None l.waits 0 l.fn.self.system l.self.system l.fn.self.lists l.self.lists l.fn.drum l.drum;
+  awaited : AreAwaited g.S.System.means (waits_with l.waits (the_lists.waiting l.self.lists)) l.self.system;
+  later : g.D.Drum.fault_count l.fn.drum ≤ g.D.Drum.fault_count l.drum;
+  size : g.D.Drum.size l.drum ≡ g.D.Drum.size l.fn.drum;
+  within : (n : ℕ) → g.S.System.means.within l.fn.self.system n → g.S.System.means.within l.self.system n;
+  marks : KeepsMarks l.fn.self l.self;
+}
+
+abbrev pub decreases-loop-waits : goal.decreases-loop-waits
+decreases-loop-waits g l = told_work g.S.System.means the_lists l.deed l.waits l.self.system l.self.lists + told_work g.S.System.means the_lists l.deed l.waits l.self.system l.self.lists + cond (is_some l.waits) 0 1

@@ -1,0 +1,104 @@
+use Rattle.std.proofs.Common.{◌≡◌, ℕ, ◌+◌, ◌-◌, ◌||◌, None, Option, Bool, true, false, not, refl, sym, ◌∙◌, ap, subst, arith}
+use Rattle.std.specs.Prelude.{◌==◌}
+use Rattle.std.proofs.lemmas.Bool.Decides.{nat_tests}
+use Rattle.machine_names.specs.declared.names.ForkName.{ForkName}
+use Rattle.plain_model.specs.Trees.{PlainTree}
+use Rattle.page_waits.specs.Acts.{IdledOver, Quiet}
+use Rattle.page_waits.specs.Holders.{AreReleased}
+use Rattle.page_waits.specs.Idling.{Counts, Moved}
+use Rattle.page_waits.specs.Told.{TookRow}
+use Rattle.page_waits.specs.Waits.{the_lists}
+use Rattle.page_waits.proofs.Idle.{nobody_runs}
+use Rattle.page_waits.proofs.Marks.{marks_then}
+use Rattle.page_waits.proofs.Moving.{moved_then}
+use Rattle.page_waits.proofs.Quieting.{ran_quiet, quiet_still, quiet_then, idle_spent, idle_quiet}
+use Rattle.page_waits.proofs.Silence.{row_behind, silent_arrival, silent_then}
+use Rattle.page_waits.proofs.machine.Machine.look.Goals as goal
+use Rattle.page_waits.proofs.machine.Machine.look.Goals.{then-not-self-via-then-not-self, then-not-self-via-else-not-self+then-left-eq0}
+
+spent : (auto : Bool) (left : ℕ) → left ≡ 0 → (not auto || (left == 0)) ≡ true
+spent false left is = refl
+spent true left is = grind (arith, nat_tests, is)
+
+pub returns-in-Some-clause-did : goal.returns-in-Some-clause-did
+returns-in-Some-clause-did g c =
+    ran_quiet g.S.System.means the_lists g.D.Drum.held c.in-Some.u.fork c.in-Some.u.progress (4294967296 - c.loop-u.left) c.args.self.now.system c.loop-u.self.system c.first_units.new.self.system c.args.self.now.lists c.loop-u.self.lists c.args.drum.now c.loop-u.drum c.loop-u.invariant.quiet c.in-Some.ensures.did
+
+pub returns-then-not-self-clause-idled : goal.returns-then-not-self-clause-idled
+returns-then-not-self-clause-idled g c count done =
+    let mark : c.first_units.new.self.auto ≡ c.args.self.now.auto = c.first_units.ensures.mark ∙ c.loop-u.invariant.marks.auto in
+    let none = c.in_default.is in
+    let after = c.first_units.new.self in
+    idle_spent g.S.System.means the_lists g.D.Drum.held c.args.self.now.system after.system c.args.self.now.lists after.lists c.args.drum.now c.loop-u.drum
+    (nobody_runs g.S.System.means after.system after.lists c.sound.ensures after.standing (c.first_units.ensures.nobody none)) (g.met.S.System.housed after.system) (λ d fits. g.met.S.System.forked after.system d fits)
+    c.args.self.now.auto count c.loop-u.left
+    (elim c.then-not-self.branch [
+      | then-not-self-via-then-not-self w ↦ ap (λ b. not b || (c.loop-u.left == 0)) (sym mark ∙ w.if-not-self.true)
+      | then-not-self-via-else-not-self+then-left-eq0 w ↦ spent c.args.self.now.auto c.loop-u.left w.if-left-eq0.true
+    ])
+    (quiet_still g.S.System.means the_lists g.D.Drum.held None None None None (4294967296 - c.loop-u.left) c.args.self.now.system c.loop-u.self.system after.system c.args.self.now.lists c.loop-u.self.lists after.lists c.args.drum.now c.loop-u.drum c.loop-u.invariant.quiet (c.first_units.ensures.still none))
+    (g.met.S.System.housed c.args.self.now.system)
+
+pub returns-in-Nothing-clause-idled : goal.returns-in-Nothing-clause-idled
+returns-in-Nothing-clause-idled g c count done =
+    let none = c.in_default.is in
+    let before = c.first_units.new.self in
+    let after = c.complete.new.self in
+    let same = c.in-Nothing.ensures.system refl in
+    let lists = c.in-Nothing.ensures.lists refl in
+    let drum = c.in-Nothing.ensures.stays refl in
+    subst (λ s. IdledOver g.S.System.means the_lists g.D.Drum.held c.args.self.now.auto count c.args.self.now.system s c.args.drum.now c.complete.new.drum) (sym same)
+    (subst (IdledOver g.S.System.means the_lists g.D.Drum.held c.args.self.now.auto count c.args.self.now.system before.system c.args.drum.now) (sym drum)
+    (idle_quiet g.S.System.means the_lists g.D.Drum.held c.args.self.now.system before.system c.args.self.now.lists before.lists c.args.drum.now c.loop-u.drum
+    (nobody_runs g.S.System.means before.system before.lists c.sound.ensures before.standing (c.first_units.ensures.nobody none)) (g.met.S.System.housed before.system) (λ d fits. g.met.S.System.forked before.system d fits)
+    c.args.self.now.auto count (4294967296 - c.loop-u.left) (c.in-Nothing.ensures.nothing refl)
+    (quiet_still g.S.System.means the_lists g.D.Drum.held None None None None (4294967296 - c.loop-u.left) c.args.self.now.system c.loop-u.self.system before.system c.args.self.now.lists c.loop-u.self.lists before.lists c.args.drum.now c.loop-u.drum c.loop-u.invariant.quiet (c.first_units.ensures.still none))))
+
+pub returns-in-Some-clause-row : goal.returns-in-Some-clause-row
+returns-in-Some-clause-row g c =
+    let u = c.in-Some.u in
+    let after = (g.S.System.means.tree c.first_units.new.self.system).forks in
+    row_behind u.fork u.progress.count u.ended (g.S.System.means.tree c.args.self.now.system).forks after c.args.self.now.lists.sched c.loop-u.self.lists.sched c.first_units.new.self.lists.sched c.loop-u.invariant.silent
+    (subst (λ (t : PlainTree). TookRow u.fork u.progress.count u.ended t.forks after c.loop-u.self.lists.sched c.first_units.new.self.lists.sched) c.loop-u.invariant.quiet.told.tree c.in-Some.ensures.row)
+
+pub returns-in-Some-clause-released : goal.returns-in-Some-clause-released
+returns-in-Some-clause-released g c =
+    subst (λ (m : ℕ → Option ForkName). AreReleased m (the_lists.member c.first_units.new.self.lists) (g.S.System.means.store.holds c.first_units.new.self.system)) c.loop-u.invariant.seated c.in-Some.ensures.released
+
+pub loop-u-preserved : goal.loop-u-preserved
+loop-u-preserved g c =
+    let means = g.S.System.means in
+    let counts : Counts g.row.D.Denot = record { reads = g.D.Drum.read_count; writes = g.D.Drum.write_count } in
+    let i = c.loop-u.invariant in
+    let none = c.in_default.is in
+    let old = c.args.self.now in
+    let mid = c.loop-u.self in
+    let planned = c.first_units.new.self in
+    let new = c.complete.new.self in
+    let need = c.in-Done.field-0 in
+    let more : 4294967296 - c.loop-u.left + 1 ≡ 4294967296 - (c.loop-u.left - 1) = omega (arith, i.few, c.if-left-eq0.false) in
+    let still = c.first_units.ensures.still none in
+    let quiet = c.in-Done.ensures.done need refl in
+    record {
+      few = omega (arith, i.few);
+      quiet =
+          subst (λ n. Quiet means the_lists g.D.Drum.held None None None n old.system new.system old.lists new.lists c.args.drum.now c.complete.new.drum) more
+          (quiet_then means the_lists g.D.Drum.held None None None None (4294967296 - c.loop-u.left) 1 old.system planned.system new.system old.lists planned.lists new.lists c.args.drum.now c.loop-u.drum c.complete.new.drum
+          (quiet_still means the_lists g.D.Drum.held None None None None (4294967296 - c.loop-u.left) old.system mid.system planned.system old.lists mid.lists planned.lists c.args.drum.now c.loop-u.drum i.quiet still) quiet);
+      moved =
+          subst (λ n. Moved counts n c.args.drum.now c.complete.new.drum) more
+          (moved_then counts (4294967296 - c.loop-u.left) 1 c.args.drum.now c.loop-u.drum c.complete.new.drum i.moved (c.in-Done.ensures.moved need refl) c.complete.ensures.reads c.complete.ensures.writes);
+      later = omega (arith, i.later, c.complete.ensures.later);
+      size = c.complete.ensures.size ∙ i.size;
+      off = λ off. let mark : planned.auto ≡ old.auto = c.first_units.ensures.mark ∙ i.marks.auto in absurd (on (sym c.if-not-self.false) (mark ∙ off));
+      silent =
+          silent_then old.lists.sched planned.lists.sched new.lists.sched (silent_then old.lists.sched mid.lists.sched planned.lists.sched i.silent (c.first_units.ensures.silent none))
+          (silent_arrival planned.lists.sched new.lists.sched need (c.in-Done.ensures.told need refl));
+      seated = c.complete.ensures.seated ∙ c.first_units.ensures.seated none ∙ i.seated;
+      within = λ n w. quiet.told.within n (still.told.within n (i.within n w));
+      marks = marks_then old mid new i.marks (marks_then mid planned new (record { limit = c.first_units.ensures.limit; done = c.first_units.ensures.count none; auto = c.first_units.ensures.mark }) c.complete.ensures.marks);
+      bare = c.complete.ensures.bare c.first_units.ensures.bare;
+    }
+  where
+    on : {b : Bool} → true ≡ b → b ≡ false → ⊥
+    on e f = cc (e ∙ f)

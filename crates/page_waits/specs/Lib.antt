@@ -1,0 +1,11 @@
+pub mod Seats
+pub mod Systems
+pub mod Waits
+pub mod Holding
+pub mod Left
+pub mod Acts
+pub mod Idling
+pub mod Machines
+pub mod Told
+pub mod Holders
+pub mod Nearing

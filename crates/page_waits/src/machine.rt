@@ -1,0 +1,26 @@
+// The machine: a system with the lists of its forks.
+ghost use Rattle.fork_lists.specs.Ties.{AreTied};
+ghost use Rattle.page_waits.specs.Waits.{AreStanding, the_lists};
+
+use crate::System;
+use fork_lists::ForkLists;
+
+/// The system, and who runs next.
+#[derive(Drop)]
+pub struct Machine<S: System> {
+    system: S,
+    lists: ForkLists,
+    /// How many entries of runs are done.
+    done: u64,
+    /// A run completes transfers by itself.
+    auto: bool,
+    // Who waits is awaited, and what is held is held for members.
+    ghost standing: { AreStanding S.means the_lists system lists },
+    // The forks in the lists are those that can run.
+    ghost tied: { AreTied (S.means.tree system).forks lists },
+}
+
+mod boot;
+mod bringing;
+mod looking;
+mod moving;

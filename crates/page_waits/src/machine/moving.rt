@@ -1,0 +1,76 @@
+// What a script asks of frames and transfers, and the end of a quantum.
+ghost use Rattle.std.specs.Prelude.{◌≡◌, ◌≤◌, None, OnErr, OnOk};
+ghost use Rattle.outside.specs.Faults.{Rose};
+ghost use Rattle.page_contracts.specs.Stores.{Evicts};
+ghost use Rattle.page_waits.specs.Acts.{Quiet};
+ghost use Rattle.page_waits.specs.Machines.{IsBare, KeepsMarks, auto, done, limit};
+ghost use Rattle.page_waits.specs.Systems.{StaysState};
+ghost use Rattle.page_waits.specs.Waits.{the_lists};
+
+use crate::System;
+use crate::machine::Machine;
+use outside::{Drum, Failed};
+use page_contracts::Completed;
+use page_homes::FrameId;
+
+impl<S: System> Machine<S> {
+    /// EVICT: the page of a frame begins to leave it, where there is such a frame and the page may.
+    pub fn evict(&mut self, frame: u32)
+        ensures evicts { Evicts S.means.store frame self.old.system self.new.system }
+        ensures state { StaysState S.means self.old.system self.new.system }
+        ensures lists { self.new.lists ≡ self.old.lists }
+        ensures bare { IsBare self.old → IsBare self.new }
+        ensures marks { KeepsMarks self.old self.new }
+    {
+        self.system.evict(FrameId(frame));
+    }
+
+    /// DRUM: the oldest transfers end, so many at most; all, where fewer are queued.
+    pub fn transfers<D: Drum>(&mut self, n: u32, drum: &mut D) -> Result<(), Failed>
+        requires drum { limit self.old ≤ D.size drum.old }
+        requires bare { IsBare self.old }
+        ensures later { D.fault_count drum.old ≤ D.fault_count drum.new }
+        ensures cause { OnErr result (Rose (D.fault_count drum.old) (D.fault_count drum.new)) }
+        ensures size { D.size drum.new ≡ D.size drum.old }
+        ensures quiet { OnOk result (Quiet S.means the_lists D.held None None None 0 self.old.system self.new.system self.old.lists self.new.lists drum.old drum.new) }
+        ensures bare { IsBare self.new }
+        ensures marks { KeepsMarks self.old self.new }
+    {
+        for _k in 0..n {
+            match self.complete(drum) {
+                Completed::Done(_) => {}
+                Completed::Nothing => return Ok(()),
+                Completed::DrumFault => return Err(Failed),
+            }
+        }
+        Ok(())
+    }
+
+    /// AUTO: whether a run completes transfers by itself.
+    pub fn set_auto(&mut self, on: bool)
+        ensures mark { auto self.new ≡ on }
+        ensures system { self.new.system ≡ self.old.system }
+        ensures lists { self.new.lists ≡ self.old.lists }
+        ensures count { done self.new ≡ done self.old }
+    {
+        self.auto = on;
+    }
+
+    /// Where a quantum has ended, and a run completes transfers by itself, the oldest transfer ends.
+    pub fn end_quantum<D: Drum>(&mut self, ended: bool, drum: &mut D) -> Result<(), Failed>
+        requires drum { limit self.old ≤ D.size drum.old }
+        requires bare { IsBare self.old }
+        ensures later { D.fault_count drum.old ≤ D.fault_count drum.new }
+        ensures cause { OnErr result (Rose (D.fault_count drum.old) (D.fault_count drum.new)) }
+        ensures size { D.size drum.new ≡ D.size drum.old }
+        ensures quiet { OnOk result (Quiet S.means the_lists D.held None None None 0 self.old.system self.new.system self.old.lists self.new.lists drum.old drum.new) }
+        ensures bare { IsBare self.new }
+        ensures marks { KeepsMarks self.old self.new }
+    {
+        if ended && self.auto {
+            self.transfers(1, drum)
+        } else {
+            Ok(())
+        }
+    }
+}
