@@ -1,0 +1,7 @@
+mod Few
+mod Away
+mod FewDeeds
+mod Again
+mod Stepping
+mod Turning
+mod Families

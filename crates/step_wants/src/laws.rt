@@ -1,0 +1,86 @@
+// What follows from the definitions. A law does nothing when it runs.
+ghost use Rattle.std.specs.Prelude.{◌≡◌, ◌+◌, ◌*◌, ◌≤◌, ℕ, Option, Some, List, length, true};
+ghost use Rattle.std.specs.Ordering.{nat_cmp};
+ghost use Rattle.std.specs.FinMap.{contains_key};
+ghost use Rattle.machine_names.specs.Orders.{name_cmp};
+ghost use Rattle.machine_names.specs.declared.names.ForkName.{ForkName as AForkName};
+ghost use Rattle.machine_names.specs.declared.names.PageName.{PageName as APageName};
+ghost use Rattle.page_contracts.specs.Pages.{Scene, map_away, page_away};
+ghost use Rattle.page_contracts.specs.declared.answers.Need.TheVariants.{Page};
+ghost use Rattle.page_homes.specs.declared.homes.Home.{Home as AHome};
+ghost use Rattle.plain_model.specs.ByteCalls.{ByteTurn};
+ghost use Rattle.plain_model.specs.Calls.{Turn, no_files};
+ghost use Rattle.plain_model.specs.Forks.{ForkMap};
+ghost use Rattle.plain_model.specs.State.{PlainState};
+ghost use Rattle.plain_model.specs.declared.call.ForkChange.{ForkChange as AForkChange};
+ghost use Rattle.plain_model.specs.declared.call.InterruptChange.{InterruptChange as AnInterruptChange};
+ghost use Rattle.plain_model.specs.declared.call.MapChange.{MapChange as AMapChange};
+ghost use Rattle.plain_pages.specs.PlainPages.{NumberedPages, PlainPages};
+ghost use Rattle.plain_pages.specs.References.{Spot};
+ghost use Rattle.plain_units.specs.Instructions.{instruction};
+ghost use Rattle.plain_units.specs.Steps.{Progress, Steps, begun, need, stopped};
+ghost use Rattle.plain_units.specs.declared.registers.Regs.{Regs as ARegs};
+ghost use Rattle.plain_units.specs.declared.unit.TheConstants.{MOST_REFERENCES};
+ghost use Rattle.event_deeds.specs.declared.deed.Deed.{Deed as ADeed};
+ghost use Rattle.file_bytes.specs.Turning.{ByteNeeds};
+ghost use Rattle.file_tables.specs.Keys.{seen_in};
+ghost use Rattle.file_tables.specs.declared.tables.FileTables.{FileTables as ATables};
+ghost use Rattle.fork_calls.specs.Needing.{TurnNeeds as ForkNeeds};
+ghost use Rattle.ka10_unit.specs.Gathers.{Framed};
+ghost use Rattle.ka10_unit.specs.Taking.{run_over};
+ghost use Rattle.pmap_calls.specs.Making.{MapNeeds};
+ghost use Rattle.psi_calls.specs.Turning.{PsiNeeds};
+ghost use Rattle.string_io.specs.Turning.{StringNeeds};
+ghost use Rattle.step_wants.specs.Names.{is_named, names_of_steps, names_of_turn, names_on_way, none_at_end};
+ghost use Rattle.step_wants.specs.Naming.{AreHomed, AskAgainLast};
+ghost use Rattle.step_wants.specs.Wants.{names_of_deed, names_of_end, names_of_fork_change, names_of_map_change};
+
+/// The way to a page has at most four maps and one page.
+pub fn a_way_has_five_names()
+    ensures { (p : NumberedPages) (at : Spot ℕ) → length (names_on_way p at) ≤ 5 }
+{}
+
+/// The steps of a unit refer to five for each of their sixteen references at most, and to five more for the one that is asked for again, right before they end.
+pub fn steps_refer_to_few()
+    ensures steps { (f : AForkName) (steps : Steps) (t : Progress name_cmp) → AskAgainLast steps → length t.refs ≤ MOST_REFERENCES → length (names_of_steps f steps t) + 5 * length t.refs ≤ 5 * MOST_REFERENCES + 5 }
+    ensures instructions { (f : AForkName) (regs : ARegs) (p : PlainPages name_cmp) → length (names_of_steps f (instruction regs) (begun p regs.ac)) ≤ 5 * MOST_REFERENCES + 5 }
+{}
+
+/// A deed refers to five at most.
+pub fn a_deed_refers_to_few()
+    ensures { (s : PlainState) (d : ADeed) → length (names_of_deed s d) ≤ 5 }
+{}
+
+/// What is in no frame of the maps on a way, and of its page, is the home of one of its names.
+pub fn what_is_away_is_named()
+    ensures map { (p : NumberedPages) (at : Spot ℕ) (scene : Scene) (map_home : AForkName → Option ℕ) (page_home : APageName → Option ℕ) (home : ℕ)
+        → AreHomed map_home page_home scene → map_away p scene at ≡ Some home → is_named map_home page_home (names_on_way p at) home ≡ true }
+    ensures page { (p : NumberedPages) (at : Spot ℕ) (scene : Scene) (map_home : AForkName → Option ℕ) (page_home : APageName → Option ℕ) (home : ℕ)
+        → AreHomed map_home page_home scene → page_away p scene at ≡ Some home → is_named map_home page_home (names_on_way p at) home ≡ true }
+{}
+
+/// Where the steps of a unit need a page or a map first, that is the home of one of their names.
+pub fn what_steps_need_is_named()
+    ensures { (f : AForkName) (p : Framed) (steps : Steps) (t : Progress nat_cmp) (map_home : AForkName → Option ℕ) (page_home : APageName → Option ℕ) (home : AHome)
+        → AreHomed map_home page_home p.scene → run_over f p steps t ≡ stopped (need (Page home)) → is_named map_home page_home (names_of_steps f steps t) home.0 ≡ true }
+{}
+
+/// Where the turn of a call needs a page or a map first, that is the home of one of its names: of the calls on bytes, on strings, on pseudo-interrupts and on maps.
+pub fn what_turns_need_is_named()
+    ensures bytes { (tables : ATables) (scene : Scene) (p : NumberedPages) (t : ByteTurn) (map_home : AForkName → Option ℕ) (page_home : APageName → Option ℕ) (home : AHome)
+        → AreHomed map_home page_home scene → ByteNeeds tables scene p t (Page home) → is_named map_home page_home (names_of_turn (seen_in tables) none_at_end p t) home.0 ≡ true }
+    ensures strings { (tables : ATables) (scene : Scene) (p : NumberedPages) (t : ByteTurn) (map_home : AForkName → Option ℕ) (page_home : APageName → Option ℕ) (home : AHome)
+        → AreHomed map_home page_home scene → StringNeeds tables scene p t (Page home) → is_named map_home page_home (names_of_turn (seen_in tables) none_at_end p t) home.0 ≡ true }
+    ensures interrupts { (scene : Scene) (p : NumberedPages) (t : Turn ⊥ AnInterruptChange) (map_home : AForkName → Option ℕ) (page_home : APageName → Option ℕ) (home : AHome)
+        → AreHomed map_home page_home scene → PsiNeeds scene p t (Page home) → is_named map_home page_home (names_of_turn no_files none_at_end p t) home.0 ≡ true }
+    ensures maps { (tables : ATables) (scene : Scene) (p : NumberedPages) (t : Turn (List ℕ) AMapChange) (map_home : AForkName → Option ℕ) (page_home : APageName → Option ℕ) (home : AHome)
+        → AreHomed map_home page_home scene → MapNeeds tables scene p t (Page home)
+        → is_named map_home page_home (names_of_turn (seen_in tables) (names_of_end names_of_map_change) p t) home.0 ≡ true }
+{}
+
+/// Where the turn of a fork call needs a page or a map first, that is the home of one of its names, as long as each fork whose map is in no frame is there.
+pub fn what_fork_turns_need_is_named()
+    ensures { (p : Framed) (forks : ForkMap) (t : Turn ⊥ AForkChange) (map_home : AForkName → Option ℕ) (page_home : APageName → Option ℕ) (home : AHome)
+        → AreHomed map_home page_home p.scene → ((f : AForkName) (h : ℕ) → p.scene.map_away f ≡ Some h → contains_key forks f ≡ true) → ForkNeeds p forks t (Page home)
+        → is_named map_home page_home (names_of_turn no_files (names_of_end (names_of_fork_change forks)) p.pages t) home.0 ≡ true }
+{}

@@ -1,0 +1,11 @@
+//! To which pages and maps a unit of a fork and a deed of the console refer.
+//! To the layers above what is needed first is the home of one of few names, which the plain state alone tells.
+//! Stands on `plain_model` for what units do, on the families of calls for what their turns need first, and on `event_deeds` for the deeds of an event.
+#![tactic(auto)]
+
+mod laws;
+
+pub use laws::{
+    a_deed_refers_to_few, a_way_has_five_names, steps_refer_to_few, what_fork_turns_need_is_named,
+    what_is_away_is_named, what_steps_need_is_named, what_turns_need_is_named,
+};
