@@ -1,4 +1,7 @@
 pub mod Latest
 pub mod Places
-pub mod Slotted
+pub mod Seated
+pub mod Linked
+pub mod Moved
+pub mod Kept
 pub mod Rows

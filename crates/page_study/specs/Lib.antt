@@ -1,3 +1,4 @@
 pub mod Memories
+pub mod Seats
 pub mod Stacks
 pub mod Rows

@@ -1,22 +1,26 @@
 // The references so far, as far as they tell what memories of each size miss (Mattson and others, 1970).
-ghost use Rattle.std.specs.Prelude.{◌≡◌, ℕ, ◌+◌, ◌<◌, ◌≤◌, ◌^◌, List, [], ◌∷◌, ◌++◌, length, slice_index, IfOk};
-ghost use Rattle.std.specs.List.{remove};
+ghost use Rattle.std.specs.Prelude.{◌≡◌, ℕ, ◌+◌, ◌*◌, ◌<◌, ◌≤◌, ◌^◌, List, [], ◌∷◌, ◌++◌, Some, length, slice_index, IfOk};
 ghost use Rattle.machine_names.specs.declared.names.PageName.{PageName as APageName};
 ghost use Rattle.page_study.specs.Memories.{lru, window};
-ghost use Rattle.page_study.specs.Stacks.{place, room_of, first_counts, behind, IsStackOf, Slots};
+ghost use Rattle.page_study.specs.Stacks.{room_of, first_counts, tally, IsStackOf};
 
-use machine_names::{PageName, Tty};
+use crate::latest_pages::LatestPages;
+use crate::seats::LastUse;
+use machine_names::PageName;
 use outside::Memory;
 use std::alloc::Global;
+
+/// How many pages the largest memory that is studied may have, and how many references the longest window.
+pub const MOST_PAGES: u32 = 8192;
+
+/// How many references may be studied.
+pub const MOST_REFERENCES: u64 = 17_592_186_044_416;
 
 /// The pages that were referred to last, each once, and how often a page was found how far away.
 #[derive(Drop)]
 pub struct Stack {
-    // The pages, the latest first, in the first places of a row, and the number of the last reference to each.
-    pages: Vec<PageName>,
-    lasts: Vec<u64>,
-    count: usize,
-    // How often a page was found at each place of these.
+    latest: LatestPages,
+    // How often a page was found behind so many others of these.
     near: Vec<u64>,
     // How often a page was found so many references behind its last one.
     soon: Vec<u64>,
@@ -26,19 +30,13 @@ pub struct Stack {
 impl Stack {
     /// A stack of no references, for memories and windows of up to so many pages. Memory where there is none for so many.
     pub fn boot(alloc: Global, most: u32) -> Result<Stack, Memory>
-        requires { (1 ≤ most) × (most ≤ 8192) }
+        requires { (1 ≤ most) × (most ≤ MOST_PAGES) }
         ensures room { IfOk result (λ s. room_of s ≡ most) }
         ensures empty { IfOk result (λ s. IsStackOf [] s) }
     {
         let room = most as usize;
-        let nobody = PageName {
-            tty: Tty::CONSOLE,
-            serial: 0,
-        };
         Ok(Stack {
-            pages: vec![in alloc; nobody; room]?,
-            lasts: vec![in alloc; 0; room]?,
-            count: 0,
+            latest: LatestPages::boot(alloc, room)?,
             near: vec![in alloc; 0; room]?,
             soon: vec![in alloc; 0; room]?,
             references: 0,
@@ -49,38 +47,15 @@ impl Stack {
     pub fn touch(&mut self, page: PageName)
         ghost trace: { List APageName }
         requires of { IsStackOf trace self.old }
-        requires few { length trace < 2 ^ 44 }
+        requires few { length trace < MOST_REFERENCES }
         ensures room { room_of self.new ≡ room_of self.old }
         ensures more { IsStackOf (trace ++ page ∷ []) self.new }
     {
-        let d = self.slot_of(page);
-        to_front(self.pages.as_mut_slice(), d, page);
-        to_front(self.lasts.as_mut_slice(), d, self.references);
+        let number = self.references;
         self.references += 1;
-    }
-
-    // The place of a page that is to come first: its own, which is counted, or the first one that is free, or the last.
-    fn slot_of(&mut self, page: PageName) -> usize
-        ghost trace: { List APageName }
-        requires of { IsStackOf trace self.old }
-        requires few { length trace < 2 ^ 44 }
-        ensures { Slots (behind [] trace) page self.old self.new result }
-    {
-        match place_of(&self.pages[..self.count], page) {
-            Some(d) => {
-                self.near[d] += 1;
-                let since = self.references - 1 - self.lasts[d];
-                if since < self.soon.len() as u64 {
-                    self.soon[since as usize] += 1;
-                }
-                d
-            }
-            None => {
-                if self.count < self.pages.len() {
-                    self.count += 1;
-                }
-                self.count - 1
-            }
+        if let Some(found) = self.latest.refer(LastUse { page, number }) {
+            count_one(&mut self.near, found.distance);
+            count_one(&mut self.soon, number - 1 - found.number);
         }
     }
 
@@ -98,7 +73,7 @@ impl Stack {
         ghost trace: { List APageName }
         requires of { IsStackOf trace self.now }
         requires size { (1 ≤ m) × (m ≤ room_of self.now) }
-        requires few { length trace < 2 ^ 45 }
+        requires few { length trace < 2 * MOST_REFERENCES }
         ensures { result ≡ lru trace m }
     {
         self.references - first_counts(&self.near, m as usize)
@@ -109,7 +84,7 @@ impl Stack {
         ghost trace: { List APageName }
         requires of { IsStackOf trace self.now }
         requires size { (1 ≤ m) × (m ≤ room_of self.now) }
-        requires few { length trace < 2 ^ 45 }
+        requires few { length trace < 2 * MOST_REFERENCES }
         ensures { result ≡ window trace m }
     {
         self.references - first_counts(&self.soon, m as usize)
@@ -129,23 +104,13 @@ fn first_counts(counts: &[u64], m: usize) -> u64
     sum
 }
 
-// Where a page stands among these.
-fn place_of(pages: &[PageName], page: PageName) -> Option<usize>
-    ensures { result ≡ place page pages.now }
+// One more at a place, if there is one.
+fn count_one(counts: &mut Vec<u64>, at: u64)
+    requires few { (k : ℕ) → slice_index counts.old.items k + 1 < 2 ^ 64 }
+    ensures room { length counts.new.items ≡ length counts.old.items }
+    ensures more { (k : ℕ) → k < length counts.old.items → slice_index counts.new.items k ≡ slice_index counts.old.items k + tally (Some at) k }
 {
-    for (i, p) in pages.iter().enumerate() {
-        if page.tty.0 == p.tty.0 && page.serial == p.serial {
-            return Some(i);
-        }
+    if at < counts.len() as u64 {
+        counts[at as usize] += 1;
     }
-    None
-}
-
-// Puts something first in a row, in place of what stood at a place of it.
-fn to_front<T: Copy>(row: &mut [T], at: usize, first: T)
-    requires { at < length row.old }
-    ensures { row.new ≡ first ∷ remove row.old at }
-{
-    row[..at + 1].rotate_right(1);
-    row[0] = first;
 }
