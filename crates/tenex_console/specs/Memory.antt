@@ -9,7 +9,7 @@ use Rattle.script_texts.specs.Follows.{Follows}
 use Rattle.plain_model.specs.Passing.{AreFair}
 use Rattle.plain_model.specs.Run.{AreLegal, items_of}
 use Rattle.script_texts.specs.Script.{IsScript}
-use Rattle.script_texts.specs.Texts.{record_text}
+use Rattle.script_texts.specs.Texts.{record_text, transcript}
 use Rattle.outside.specs.declared.memory_drum.SureDrum.{SureDrum}
 use Rattle.outside.specs.declared.memory_sink.MemSink.{MemSink}
 use Rattle.script_lang.specs.Generator.{big_events}
@@ -17,7 +17,7 @@ use Rattle.command_words.specs.declared.request.EventSource.{EventSource}
 use Rattle.command_words.specs.declared.request.EventSource.TheVariants.{Script, Generated}
 use Rattle.command_words.specs.declared.request.Request.{Request}
 use Rattle.command_words.specs.Words.{Ask}
-use Rattle.tenex_console.specs.Headline.{generated_transcript, script_transcript}
+use Rattle.tenex_console.specs.Headline.{generated_transcript}
 
 -- these bytes are lines that spell the events, or the events are those of the generated script that is asked for
 abbrev pub AreSpelled : EventSource → List ℕ → List Event → Type 0
@@ -26,7 +26,7 @@ AreSpelled (Generated seed) script events = events ≡ big_events seed
 
 -- the transcript of a script, or of a generated one
 abbrev pub whole_transcript : EventSource → List Item → List Step → List ℕ
-whole_transcript Script items entries = script_transcript items entries
+whole_transcript Script items entries = transcript items
 whole_transcript (Generated seed) items entries = generated_transcript items entries
 
 -- The headline in bytes: the events are those that are asked for, and behind what both sinks had stand the
