@@ -9,6 +9,6 @@ ghost use Rattle.tenex_console.specs.Observed.{Observed};
 
 /// The entries of a run and the counts in its record are within their limits, so that no others within theirs have this record.
 pub fn a_record_is_of_one_run()
-    ensures fits { (events : List AnEvent) (text : List AnItem → List AStep → List ℕ) (limit : ℕ) (told : Observed) (run : IsRunOf events text limit told)
+    ensures { (events : List AnEvent) (text : List AnItem → List AStep → List ℕ) (limit : ℕ) (told : Observed) (run : IsRunOf events text limit told)
         → FitsRecord run.entries told.reads told.writes }
 {}

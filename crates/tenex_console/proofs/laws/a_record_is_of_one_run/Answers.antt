@@ -1,5 +1,5 @@
 use Rattle.tenex_console.proofs.Spelled.{record_fits}
 use Rattle.tenex_console.proofs.laws.a_record_is_of_one_run.Goals as goal
 
-pub returns-clause-fits : goal.returns-clause-fits
-returns-clause-fits c events text limit told run = record_fits events text limit told run
+pub returns : goal.returns
+returns c = λ events text limit told run. record_fits events text limit told run
