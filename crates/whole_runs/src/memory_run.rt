@@ -115,18 +115,10 @@ pub(crate) fn assert_ended_at(
     record: (&[u8], &[u8]),
 ) {
     same_at(rt, row, ran.status, status);
-    same_at(
-        rt,
-        row,
-        ran.out.bytes().strip_prefix(transcript.0),
-        Some(transcript.1),
-    );
-    same_at(
-        rt,
-        row,
-        ran.rec.bytes().strip_prefix(record.0),
-        Some(record.1),
-    );
+    let shown = ran.out.bytes().strip_prefix(transcript.0);
+    same_at(rt, row, shown, Some(transcript.1));
+    let recorded = ran.rec.bytes().strip_prefix(record.0);
+    same_at(rt, row, recorded, Some(record.1));
 }
 
 /// Runs a script to its end, which gives exactly these texts and never asks the drum.
