@@ -4,7 +4,7 @@ ghost use Rattle.outside.specs.declared.TheConstants.{PAGE_WORDS};
 ghost use Rattle.machine_names.specs.declared.names.ForkName.{ForkName as AForkName};
 ghost use Rattle.machine_names.specs.Bounds.{IsAddress};
 ghost use Rattle.page_contracts.specs.DrumWords.{DrumWords};
-ghost use Rattle.page_contracts.specs.Pages.{HasSpace, CanChange, IsTouched, OnlyUses};
+ghost use Rattle.page_contracts.specs.Pages.{HasSpace, CanChange, OnlyUses};
 ghost use Rattle.ka10_spots.specs.Glide.{Takes, is_ready, word_of};
 ghost use Rattle.ka10_spots.specs.Spots.{IsReached, IsSpot, StoredIf, UsesPage};
 
@@ -31,18 +31,6 @@ pub fn page_of(at: u32) -> u16
     (at / PAGE_ADDRESSES) as u16
 }
 
-/// Where the page of an address is, if a reference of this kind to it goes through as the pages are.
-#[inline(always)]
-fn page_to<P: Pages>(pages: &P, space: SpaceHandle, at: u32, kind: Kind) -> Option<Found>
-    requires space { HasSpace P.means pages.now space }
-    requires address { IsAddress at }
-    ensures place { IfSome result (λ found. P.means.place pages.now space (at / PAGE_WORDS) ≡ Some found) }
-    ensures reached { (f : AForkName) → P.means.space pages.now f ≡ Some space → IsTouched P.means pages.now f (at / PAGE_WORDS) kind → IsSome result }
-    ensures told { (d : DrumWords) (f : AForkName) → P.means.fits pages.now d → P.means.space pages.now f ≡ Some space → IfSome result (λ found. is_ready f (P.means.plain pages.now d) at kind ≡ true) }
-{
-    pages.find(space, page_of(at), kind)
-}
-
 /// Where the word at an address is, if a reference of this kind goes through as the pages are.
 #[inline(always)]
 pub fn spot_to<P: Pages>(pages: &P, space: SpaceHandle, at: u32, kind: Kind) -> Option<Spot>
@@ -55,7 +43,7 @@ pub fn spot_to<P: Pages>(pages: &P, space: SpaceHandle, at: u32, kind: Kind) -> 
     if at < ACCUMULATORS {
         return Some(Spot::Accumulator);
     }
-    match page_to(pages, space, at, kind) {
+    match pages.find(space, page_of(at), kind) {
         None => None,
         Some(found) => Some(Spot::Page(found)),
     }
