@@ -8,11 +8,10 @@ ghost use Rattle.ka10_spots.specs.Spots.{IsFetched};
 use crate::dispatch::carry;
 use crate::ending::Quick;
 use crate::fetch_page::FetchPage;
-use crate::fetches::{Fetched, fetch, word_of_accumulator};
+use crate::fetches::{Fetched, fetch, fetch_kept};
 use crate::instruction::Instruction;
 use ka10_deeds::{ac_field, opcode};
 use ka10_spots::{INDIRECT_WORDS, Lead, Spot, Way, effective_address, own_address};
-use machine_names::ACCUMULATORS;
 use page_contracts::{Pages, SpaceHandle};
 use plain_units::Regs;
 use word36::Word;
@@ -34,34 +33,31 @@ pub fn quick<P: Pages>(
     ensures there { IsThere P.means space pages.new kept.new }
     ensures unit { InPlace P.means space (FetchedUnit regs.old kept.old kept.new) pages.old pages.new regs.old regs.new result }
 {
-    match fetch(regs, pages, space, kept) {
+    match fetch_kept(regs, pages, space, kept) {
         Some(fetched) => execute(fetched, regs, pages, space),
         None => quick_elsewhere(regs, pages, space, kept),
     }
 }
 
-/// The same where the word isn't in a page that can be executed as the pages are: it is in an accumulator, or the unit is
-/// slow. It is a function of its own, so that its way doesn't join the other.
+/// The same where the word isn't in the page that was fetched from last. It is a function of its own, so that its way
+/// doesn't join the other.
 #[inline(never)]
 fn quick_elsewhere<P: Pages>(
     regs: &mut Regs,
     pages: &mut P,
     space: SpaceHandle,
-    kept: &FetchPage,
+    kept: &mut FetchPage,
 ) -> Quick
     requires space { HasSpace P.means pages.old space }
     requires pc { regs.old.pc < 2 ^ 18 }
-    ensures { InPlace P.means space (FetchedUnit regs.old kept.now kept.now) pages.old pages.new regs.old regs.new result }
+    requires there { IsThere P.means space pages.old kept.old }
+    ensures there { IsThere P.means space pages.new kept.new }
+    ensures unit { InPlace P.means space (FetchedUnit regs.old kept.old kept.new) pages.old pages.new regs.old regs.new result }
 {
-    let at = regs.pc;
-    if at < ACCUMULATORS {
-        let fetched = Fetched {
-            word: word_of_accumulator(regs, at),
-            spot: Spot::Accumulator,
-        };
-        return execute(fetched, regs, pages, space);
+    match fetch(regs, pages, space, kept) {
+        None => Quick::Slow,
+        Some(fetched) => execute(fetched, regs, pages, space),
     }
-    Quick::Slow
 }
 
 /// Does the unit of an instruction that was fetched.

@@ -1,4 +1,4 @@
-use Rattle.std.proofs.Common.{Some}
+use Rattle.std.proofs.Common.{Some, refl}
 use Rattle.ka10_in_place.proofs.Placing.{deed_in_place, deed_nowhere, in_place_behind, unused_in_place}
 use Rattle.ka10_in_place.proofs.ways.read.Goals as goal
 
