@@ -1,6 +1,5 @@
 // Instructions in place, by their opcodes.
 ghost use Rattle.std.specs.Prelude.{◌<◌};
-ghost use Rattle.machine_names.specs.Bounds.{IsAddress};
 ghost use Rattle.ka10_spots.specs.Spots.{IsFetched};
 ghost use Rattle.ka10_in_place.specs.InPlace.{Addressee, InPlace};
 
@@ -14,11 +13,9 @@ use ka10_deeds::{
     Move, Operation, Popj, PushPop, Pushj, Shift, SubOne, Test, act_at, is_executive, pushed,
     word_in,
 };
-use ka10_spots::{Lead, Spot, Way};
 use ka10_table::{Family, OpMode, TableRow, row};
 use page_contracts::{Pages, SpaceHandle};
 use plain_units::Regs;
-use word36::Word;
 
 // A row of the table.
 macro_rules! row {
@@ -99,24 +96,22 @@ pub fn carry<P: Pages>(
         Act::BooleanImmediate => bare(one!(Boolean op Boolean Immediate code), it, regs, pages, space),
         Act::Half => read(one!(Half op Half Basic code), it, regs, pages, space, e),
         Act::TestImmediate => bare(one!(Test op Test Basic code / 16 * 16 + code % 8), it, regs, pages, space),
-        _ => carry_other(op, ac, e, it.last, it.lead.fetched, it.lead.way, regs, pages, space),
+        _ => carry_other(op, it, regs, pages, space),
     }
 }
 
-/// The same of the other instructions, whose parts come one by one: a record whose address is handed on would be
-/// written to memory for each unit.
+/// The same of the other instructions.
 #[inline(never)]
 #[rattlefmt::skip]
 fn carry_other<P: Pages>(
-    op: u16, ac: u8, e: u32, last: Word, fetched: Spot, way: Way, regs: &mut Regs, pages: &mut P, space: SpaceHandle
+    op: u16, it: Instruction, regs: &mut Regs, pages: &mut P, space: SpaceHandle
 ) -> Quick
     requires op { op < 512 }
-    requires ac { ac < 16 }
-    requires e { IsAddress e }
-    requires fetched { IsFetched P.means space pages.old regs.old fetched }
-    ensures { InPlace P.means space (Addressee op regs.old ac e last) pages.old pages.new regs.old regs.new result }
+    requires fetched { IsFetched P.means space pages.old regs.old it.lead.fetched }
+    ensures { InPlace P.means space (Addressee op regs.old it.ac it.e it.last) pages.old pages.new regs.old regs.new result }
 {
-    let it = Instruction { ac, e, last, lead: Lead { fetched, way } };
+    let ac = it.ac;
+    let e = it.e;
     let code = row(op).code;
     match act_at(op) {
         Act::Ibp => byte(0o133, 0, it, regs, pages, space),

@@ -1,5 +1,5 @@
 // Fetches in a burst: where the page of the program counter is, is found once for the units behind.
-ghost use Rattle.std.specs.Prelude.{◌≡◌, ◌<◌, ◌^◌, true, Some, IsSome, IfSome, slice_index};
+ghost use Rattle.std.specs.Prelude.{◌≡◌, ◌<◌, ◌^◌, Some, IsSome, IfSome, slice_index};
 ghost use Rattle.machine_names.specs.declared.names.ForkName.{ForkName as AForkName};
 ghost use Rattle.machine_names.specs.declared.names.Kind.TheVariants.{Execute};
 ghost use Rattle.machine_names.specs.declared.names.TheConstants.{ACCUMULATORS, SPACE_PAGES};
@@ -7,7 +7,7 @@ ghost use Rattle.machine_names.specs.Bounds.{IsAddress};
 ghost use Rattle.page_contracts.specs.DrumWords.{DrumWords};
 ghost use Rattle.page_contracts.specs.Pages.{HasSpace};
 ghost use Rattle.ka10_spots.specs.Glide.{Takes};
-ghost use Rattle.ka10_in_place.specs.Fetches.{CanExecute, Has, IsPage, IsThere, KeepsPage};
+ghost use Rattle.ka10_in_place.specs.Fetches.{CanExecute, IsPage, IsThere, KeepsPage};
 ghost use Rattle.ka10_spots.specs.Spots.{IsReached, IsSpot};
 
 use crate::fetch_page::FetchPage;
@@ -22,41 +22,6 @@ use word36::Word;
 pub struct Fetched {
     pub word: Word,
     pub spot: Spot,
-}
-
-/// The word at the program counter, where its page is kept. None: it isn't. This is a look, and no use of the page.
-#[inline(always)]
-pub fn fetch_kept<P: Pages>(
-    regs: &Regs,
-    pages: &P,
-    space: SpaceHandle,
-    kept: &FetchPage,
-) -> Option<Fetched>
-    requires space { HasSpace P.means pages.now space }
-    requires pc { regs.now.pc < 2 ^ 18 }
-    requires there { IsThere P.means space pages.now kept.now }
-    ensures told { (d : DrumWords) (f : AForkName) → P.means.fits pages.now d → P.means.space pages.now f ≡ Some space
-        → CanExecute f (P.means.plain pages.now d) kept.now
-        → IfSome result (λ it. Takes f (P.means.plain pages.now d) regs.now.ac regs.now.pc Kind.Execute it.word) }
-    ensures spot { IfSome result (λ it. IsSpot P.means space regs.now.pc pages.now it.spot) }
-{
-    let at = regs.pc;
-    if has(kept, at) {
-        return Some(Fetched {
-            word: pages.look(space, kept.found, at),
-            spot: Spot::Page(kept.found),
-        });
-    }
-    None
-}
-
-/// Whether an address is one of a page's.
-#[inline(always)]
-fn has(page: &FetchPage, at: u32) -> bool
-    requires { IsAddress at }
-    ensures { result ≡ true → Has page.now at }
-{
-    at.wrapping_sub(page.from) < page.length
 }
 
 /// The word at the program counter, where its fetch goes through as the pages are. Its page is kept
