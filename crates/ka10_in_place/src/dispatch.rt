@@ -1,6 +1,7 @@
 // Instructions in place, by their opcodes.
-ghost use Rattle.std.specs.Prelude.{◌<◌};
-ghost use Rattle.ka10_spots.specs.Spots.{IsFetched};
+ghost use Rattle.std.specs.Prelude.{◌<◌, ◌^◌};
+ghost use Rattle.machine_names.specs.Bounds.{IsAddress};
+ghost use Rattle.page_contracts.specs.Pages.{HasSpace};
 ghost use Rattle.ka10_in_place.specs.InPlace.{Addressee, InPlace};
 
 use crate::blocks::move_word;
@@ -16,6 +17,7 @@ use ka10_deeds::{
 use ka10_table::{Family, OpMode, TableRow, row};
 use page_contracts::{Pages, SpaceHandle};
 use plain_units::Regs;
+use word36::Word;
 
 // A row of the table.
 macro_rules! row {
@@ -43,14 +45,16 @@ macro_rules! one {
 #[inline(always)]
 #[rattlefmt::skip]
 pub fn carry<P: Pages>(
-    op: u16, it: Instruction, regs: &mut Regs, pages: &mut P, space: SpaceHandle
+    op: u16, ac: u8, e: u32, last: Word, regs: &mut Regs, pages: &mut P, space: SpaceHandle
 ) -> Quick
     requires op { op < 512 }
-    requires fetched { IsFetched P.means space pages.old regs.old it.lead.fetched }
-    ensures { InPlace P.means space (Addressee op regs.old it.ac it.e it.last) pages.old pages.new regs.old regs.new result }
+    requires ac { ac < 16 }
+    requires e { IsAddress e }
+    requires space { HasSpace P.means pages.old space }
+    requires pc { regs.old.pc < 2 ^ 18 }
+    ensures { InPlace P.means space (Addressee op regs.old ac e last) pages.old pages.new regs.old regs.new result }
 {
-    let ac = it.ac;
-    let e = it.e;
+    let it = Instruction { ac, e, last };
     let code = row(op).code;
     match act_at(op) {
         Act::Jrst if is_executive(ac) => Quick::Slow,
@@ -96,7 +100,7 @@ pub fn carry<P: Pages>(
         Act::BooleanImmediate => bare(one!(Boolean op Boolean Immediate code), it, regs, pages, space),
         Act::Half => read(one!(Half op Half Basic code), it, regs, pages, space, e),
         Act::TestImmediate => bare(one!(Test op Test Basic code / 16 * 16 + code % 8), it, regs, pages, space),
-        _ => carry_other(op, it, regs, pages, space),
+        _ => carry_other(op, ac, e, last, regs, pages, space),
     }
 }
 
@@ -104,14 +108,16 @@ pub fn carry<P: Pages>(
 #[inline(never)]
 #[rattlefmt::skip]
 fn carry_other<P: Pages>(
-    op: u16, it: Instruction, regs: &mut Regs, pages: &mut P, space: SpaceHandle
+    op: u16, ac: u8, e: u32, last: Word, regs: &mut Regs, pages: &mut P, space: SpaceHandle
 ) -> Quick
     requires op { op < 512 }
-    requires fetched { IsFetched P.means space pages.old regs.old it.lead.fetched }
-    ensures { InPlace P.means space (Addressee op regs.old it.ac it.e it.last) pages.old pages.new regs.old regs.new result }
+    requires ac { ac < 16 }
+    requires e { IsAddress e }
+    requires space { HasSpace P.means pages.old space }
+    requires pc { regs.old.pc < 2 ^ 18 }
+    ensures { InPlace P.means space (Addressee op regs.old ac e last) pages.old pages.new regs.old regs.new result }
 {
-    let ac = it.ac;
-    let e = it.e;
+    let it = Instruction { ac, e, last };
     let code = row(op).code;
     match act_at(op) {
         Act::Ibp => byte(0o133, 0, it, regs, pages, space),

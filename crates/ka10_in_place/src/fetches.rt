@@ -5,57 +5,45 @@ ghost use Rattle.machine_names.specs.declared.names.Kind.TheVariants.{Execute};
 ghost use Rattle.machine_names.specs.declared.names.TheConstants.{ACCUMULATORS, SPACE_PAGES};
 ghost use Rattle.machine_names.specs.Bounds.{IsAddress};
 ghost use Rattle.page_contracts.specs.DrumWords.{DrumWords};
-ghost use Rattle.page_contracts.specs.Pages.{HasSpace};
+ghost use Rattle.page_contracts.specs.Pages.{HasSpace, OnlyUses};
 ghost use Rattle.ka10_spots.specs.Glide.{Takes};
 ghost use Rattle.ka10_in_place.specs.Fetches.{CanExecute, IsPage, IsThere, KeepsPage};
-ghost use Rattle.ka10_spots.specs.Spots.{IsReached, IsSpot};
+ghost use Rattle.ka10_spots.specs.Spots.{IsReached, UsesPage};
 
 use crate::fetch_page::FetchPage;
-use ka10_spots::{Spot, page_of};
+use ka10_spots::page_of;
 use machine_names::{ACCUMULATORS, Kind, PAGE_ADDRESSES};
 use page_contracts::{Found, Pages, SpaceHandle};
 use plain_units::Regs;
 use word36::Word;
 
-/// An instruction word, and where it stands.
-#[derive(Clone, Copy)]
-pub struct Fetched {
-    pub word: Word,
-    pub spot: Spot,
-}
-
 /// The word at the program counter, where its fetch goes through as the pages are. Its page is kept
-/// for the fetches behind. This is a look, and no use of the page.
+/// for the fetches behind; each fetch is a use of it.
 #[inline(always)]
 pub fn fetch<P: Pages>(
     regs: &Regs,
-    pages: &P,
+    pages: &mut P,
     space: SpaceHandle,
     kept: &mut FetchPage,
-) -> Option<Fetched>
-    requires space { HasSpace P.means pages.now space }
+) -> Option<Word>
+    requires space { HasSpace P.means pages.old space }
     requires pc { regs.now.pc < 2 ^ 18 }
-    requires there { IsThere P.means space pages.now kept.old }
-    ensures there { IsThere P.means space pages.now kept.new }
-    ensures reached { (f : AForkName) → P.means.space pages.now f ≡ Some space
-        → IsReached P.means pages.now f regs.now.pc Kind.Execute → IsSome result }
-    ensures told { (d : DrumWords) (f : AForkName) → P.means.fits pages.now d → P.means.space pages.now f ≡ Some space
-        → CanExecute f (P.means.plain pages.now d) kept.old → CanExecute f (P.means.plain pages.now d) kept.new
-        × IfSome result (λ it. Takes f (P.means.plain pages.now d) regs.now.ac regs.now.pc Kind.Execute it.word) }
-    ensures spot { IfSome result (λ it. IsSpot P.means space regs.now.pc pages.now it.spot) }
+    requires there { IsThere P.means space pages.old kept.old }
+    ensures there { IsThere P.means space pages.new kept.new }
+    ensures reached { (f : AForkName) → P.means.space pages.old f ≡ Some space
+        → IsReached P.means pages.old f regs.now.pc Kind.Execute → IsSome result }
+    ensures told { (d : DrumWords) (f : AForkName) → P.means.fits pages.old d → P.means.space pages.old f ≡ Some space
+        → CanExecute f (P.means.plain pages.old d) kept.old → CanExecute f (P.means.plain pages.old d) kept.new
+        × IfSome result (λ word. Takes f (P.means.plain pages.old d) regs.now.ac regs.now.pc Kind.Execute word) }
+    ensures only { OnlyUses P.means pages.old pages.new }
+    ensures uses { IfSome result (λ word. UsesPage P.means space regs.now.pc pages.old pages.new) }
 {
     let at = regs.pc;
     if keep_page(pages, space, at, kept) {
-        return Some(Fetched {
-            word: pages.look(space, kept.found, at),
-            spot: Spot::Page(kept.found),
-        });
+        return Some(pages.load(space, kept.found, at));
     }
     if at < ACCUMULATORS {
-        return Some(Fetched {
-            word: word_of_accumulator(regs, at),
-            spot: Spot::Accumulator,
-        });
+        return Some(word_of_accumulator(regs, at));
     }
     None
 }

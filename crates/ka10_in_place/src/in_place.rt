@@ -2,23 +2,24 @@
 ghost use Rattle.std.specs.Prelude.{◌<◌, ◌^◌};
 ghost use Rattle.page_contracts.specs.Pages.{HasSpace};
 ghost use Rattle.ka10_in_place.specs.InPlace.{InPlace};
-ghost use Rattle.ka10_in_place.specs.Fetches.{Executes, FetchedUnit, IsThere};
-ghost use Rattle.ka10_spots.specs.Spots.{IsFetched};
+ghost use Rattle.ka10_in_place.specs.Fetches.{FetchedUnit, IsThere};
 
 use crate::dispatch::carry;
 use crate::ending::Quick;
 use crate::fetch_page::FetchPage;
-use crate::fetches::{Fetched, fetch};
-use crate::instruction::Instruction;
+use crate::fetches::fetch;
 use ka10_deeds::{ac_field, opcode};
-use ka10_spots::{INDIRECT_WORDS, Lead, Way, effective_address, own_address};
+use ka10_spots::effective_address;
 use page_contracts::{Pages, SpaceHandle};
 use plain_units::Regs;
+
+// Indirect words are followed as far as these are more than they.
+const INDIRECT_WORDS: u32 = 13;
 
 /// Does the unit of the instruction at the program counter, on the registers and pages of a fork
 /// whose space this is, with the page that was fetched from last. Slow where a reference needs more than the pages as they are, and for an
 /// instruction that isn't done in place: an illegal one, a monitor call, a local call, XCT, and one
-/// with more than 12 indirect words. Where it is slow no page was used.
+/// with more than 12 indirect words.
 #[inline(always)]
 pub fn quick<P: Pages>(
     regs: &mut Regs,
@@ -34,57 +35,17 @@ pub fn quick<P: Pages>(
 {
     match fetch(regs, pages, space, kept) {
         None => Quick::Slow,
-        Some(fetched) => execute(fetched, regs, pages, space),
-    }
-}
-
-/// Does the unit of an instruction that was fetched.
-#[inline(always)]
-fn execute<P: Pages>(fetched: Fetched, regs: &mut Regs, pages: &mut P, space: SpaceHandle) -> Quick
-    requires fetched { IsFetched P.means space pages.old regs.old fetched.spot }
-    ensures { InPlace P.means space (Executes regs.old fetched.word) pages.old pages.new regs.old regs.new result }
-{
-    match own_address(regs, fetched.word) {
-        None => execute_indirect(fetched, regs, pages, space),
-        Some(address) => {
-            let it = Instruction {
-                ac: ac_field(fetched.word),
-                e: address.e,
-                last: address.last,
-                lead: Lead {
-                    fetched: fetched.spot,
-                    way: Way::Direct,
-                },
-            };
-            carry(opcode(fetched.word), it, regs, pages, space)
-        }
-    }
-}
-
-/// The same of one whose address is behind indirect words.
-#[inline(never)]
-fn execute_indirect<P: Pages>(
-    fetched: Fetched,
-    regs: &mut Regs,
-    pages: &mut P,
-    space: SpaceHandle,
-) -> Quick
-    requires fetched { IsFetched P.means space pages.old regs.old fetched.spot }
-    ensures { InPlace P.means space (Executes regs.old fetched.word) pages.old pages.new regs.old regs.new result }
-{
-    match effective_address(regs, pages, space, fetched.word, INDIRECT_WORDS) {
-        None => Quick::Slow,
-        Some(address) => {
-            let it = Instruction {
-                ac: ac_field(fetched.word),
-                e: address.e,
-                last: address.last,
-                lead: Lead {
-                    fetched: fetched.spot,
-                    way: Way::Indirect,
-                },
-            };
-            carry(opcode(fetched.word), it, regs, pages, space)
-        }
+        Some(word) => match effective_address(regs, pages, space, word, INDIRECT_WORDS) {
+            None => Quick::Slow,
+            Some(address) => carry(
+                opcode(word),
+                ac_field(word),
+                address.e,
+                address.last,
+                regs,
+                pages,
+                space,
+            ),
+        },
     }
 }
