@@ -4,11 +4,11 @@ use Rattle.word36.specs.Words.{left, right, joined, is_negative}
 use Rattle.ka10_table.specs.declared.families.Family.TheVariants.{Exch, Blt, PushPop, Popj}
 use Rattle.ka10_table.specs.declared.families.OpMode.TheVariants.{Basic}
 use Rattle.plain_units.specs.Addressing.{is_indirect, indexed}
-use Rattle.plain_units.specs.Deeds.{Operands, back, into, before, next_pc, pc_word, up, halves_up, moves_block, calls_by_push, pushes_or_pops, returns_by_pop, calls_by_word, taken_by, Deed, nothing_done}
+use Rattle.plain_units.specs.Deeds.{Operands, back, into, before, next_pc, pc_word, up, halves_up, moves_block, calls_by_push, pushes_or_pops, returns_by_pop, calls_by_word, taken_by, acts, Deed}
 
--- 250: EXCH
+-- what the table of instructions has for 250, EXCH
 abbrev pub exchanges : Operands → Deed
-exchanges o = record (nothing_done o.regs) { ac = Some o.m; store = back o.e o.a }
+exchanges = (acts Exch Basic 0).1 0o250
 
 -- EXCH: the accumulator gets the word at E, which gets the accumulator's
 pub record ChangePlaces (o : Operands) : Type 0 where
