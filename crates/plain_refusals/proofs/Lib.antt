@@ -1,0 +1,13 @@
+pub mod NoRefusal
+pub mod EventsRefused
+pub mod CommandsRefused
+pub mod CallsLeave
+pub mod StopsLeave
+pub mod Ends
+pub mod ForkAnswers
+pub mod MapAnswers
+pub mod FileAnswers
+pub mod AllAnswers
+pub mod References
+pub mod OneByte
+pub mod ByteSteps
