@@ -1,0 +1,2 @@
+mod Leaves
+pub mod Characters
