@@ -15,6 +15,7 @@ mod Needing
 mod Holding
 mod Silence
 mod Marks
+mod Queued
 mod Quieting
 mod Nearing
 mod Nearer

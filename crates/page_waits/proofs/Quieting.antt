@@ -56,6 +56,8 @@ module _ {S L : Type 0} (means : SystemMeaning S) (lists : ListsMeaning L) where
   -- units behind plans that left the plain state
   pub ran_still : (f : ForkName) (done : Progress) (s0 s1 s2 : S) (l0 l1 : L) → Still means lists None None None s0 s1 l0 l1 → Ran means lists f done s1 s2 → Ran means lists f done s0 s2
   ran_still f done s0 s1 s2 l0 l1 still ran = record {
+    named = ran.named;
+    gives = ran.gives;
     limit = ran.limit ∙ still.told.limit;
     within = λ n w. ran.within n (still.told.within n w);
     each = λ d fits.
@@ -100,6 +102,9 @@ module _ {S L : Type 0} (means : SystemMeaning S) (lists : ListsMeaning L) where
     -- units behind transfers
     pub ran_quiet : (f : ForkName) (done : Progress) (j : ℕ) (s0 s1 s2 : S) (l0 l1 : L) (d0 d1 : D) → Quiet means lists held None None None j s0 s1 l0 l1 d0 d1 → Ran means lists f done s1 s2 → RanOver means lists held f done s0 s2 d0 d1
     ran_quiet f done j s0 s1 s2 l0 l1 d0 d1 quiet ran = record {
+      named = ran.named;
+      gives = ran.gives;
+      within = λ n w. ran.within n (quiet.told.within n w);
       each = λ d st fits.
           let x = quiet.each d st fits in
           let y = ran.each x.0 x.2.fits in
@@ -118,6 +123,8 @@ module _ {S L : Type 0} (means : SystemMeaning S) (lists : ListsMeaning L) where
         → ((d : DrumWords) → means.fits s1 d → (means.plain s1 d).forks ≡ (means.tree s1).forks)
         → (judged_by means.store.flat auto ≡ true → (f : ForkName) → IsRunnable (means.tree s1).forks f → ⊥) → IdledOver means lists held auto count s0 s1 d0 d1
     idled auto count j s0 s1 l0 l1 d0 d1 quiet forked none = record {
+      tree = quiet.told.tree;
+      within = quiet.told.within;
       each = λ d st fits.
           let x = quiet.each d st fits in (
             x.0,
@@ -140,7 +147,7 @@ module _ {S L : Type 0} (means : SystemMeaning S) (lists : ListsMeaning L) where
     }
 
     pub never : (auto : Bool) (count : ℕ) (s0 s1 : S) (l0 l1 : L) (d0 d1 : D) → Quiet means lists held None None None 4294967296 s0 s1 l0 l1 d0 d1 → IsHoused means.store s0 → IdledOver means lists held auto count s0 s1 d0 d1
-    never auto count s0 s1 l0 l1 d0 d1 quiet housed = record { each = λ d st fits. absurd ((spent None None None s0 s1 l0 l1 d0 d1 quiet housed).never d st fits) }
+    never auto count s0 s1 l0 l1 d0 d1 quiet housed = record { tree = quiet.told.tree; within = quiet.told.within; each = λ d st fits. absurd ((spent None None None s0 s1 l0 l1 d0 d1 quiet housed).never d st fits) }
 
   -- no unit can be done, and no transfer may end any more: AUTO is off, or none is queued
   module _ {D : Type 0} (held : D → Option DrumWords) (s0 s1 : S) (l0 l1 : L) (d0 d1 : D) (nobody : means.store.queue s1 ≡ [] → (f : ForkName) → IsRunnable (means.tree s1).forks f → ⊥)

@@ -2,11 +2,12 @@
 use Rattle.std.proofs.Common.{◌≡◌, List, [], ◌∷◌, ◌++◌, refl, sym, ◌∙◌, ap}
 use Rattle.job_sched.specs.Schedules.{Schedule, arrived, waited}
 use Rattle.page_contracts.specs.declared.answers.Need.{Need}
-use Rattle.turn_forms.specs.Turns.{Silent, Arrives, Waits, moved_silently}
-use Rattle.page_waits.specs.Told.{AllTold, MovesSilently, TookRow, all_arrived}
+use Rattle.turn_forms.specs.Turns.{Silent, Arrives, Waits, moved, moved_silently}
+use Rattle.page_waits.specs.Told.{AllTold, MovesSilently, TookDeed, TookRow, all_arrived}
 use Rattle.machine_names.specs.declared.names.ForkName.{ForkName}
 use Rattle.std.specs.Prelude.{ℕ, Bool}
 use Rattle.plain_model.specs.Forks.{ForkMap}
+use Rattle.plain_model.specs.Moves.{moves}
 
 silently_on : (xs ys : List Silent) (c : Schedule) → moved_silently (xs ++ ys) c ≡ moved_silently ys (moved_silently xs c)
 silently_on [] ys c = refl
@@ -28,6 +29,10 @@ silent_then a b c f g = record { silent = f.silent ++ g.silent; are = g.are ∙ 
 -- a row that was run behind what happened silently
 pub row_behind : (f : ForkName) (count : ℕ) (ended : Bool) (before after : ForkMap) (a b c : Schedule) → MovesSilently a b → TookRow f count ended before after b c → TookRow f count ended before after a c
 row_behind f count ended before after a b c silent row = record { begun = row.begun; silent = silent_then a b row.begun silent row.silent; head = row.head; counted = row.counted }
+
+-- a deed that was done behind what happened silently
+pub deed_behind : (before after : ForkMap) (a b c : Schedule) → MovesSilently a b → AllTold (moved (moves before after) b) c → TookDeed before after a c
+deed_behind before after a b c silent told = record { begun = b; silent = silent; told = told }
 
 -- ---- what is told, one thing after another
 

@@ -1,5 +1,6 @@
 -- What transfers and plans leave of the plain state, and how much is left to do.
 use Rattle.std.specs.Prelude.{◌≡◌, ℕ, ◌+◌, ◌≤◌, List, [], Bool, true, Option, None, Some, ◌==◌, ◌||◌, if◌then◌else◌, replicate}
+use Rattle.machine_names.specs.Bounds.{IsForkName}
 use Rattle.machine_names.specs.declared.names.ForkName.{ForkName}
 use Rattle.script_texts.specs.declared.event.Step.TheVariants.{Idle as AnIdle}
 use Rattle.page_contracts.specs.declared.answers.Need.{Need}
@@ -10,6 +11,7 @@ use Rattle.event_deeds.specs.declared.deed.Deed.{Deed}
 use Rattle.event_deeds.specs.Deeds.{Task, deed_of, entries_of, unit_of}
 use Rattle.step_shown.specs.declared.progress.Progress.{Progress}
 use Rattle.page_waits.specs.declared.answer.Answer.{Answer}
+use Rattle.page_waits.specs.declared.answer.Showing.TheVariants as showing
 use Rattle.page_waits.specs.declared.turn.Turn.{Turn}
 use Rattle.page_waits.specs.declared.turn.Turn.TheVariants as turn
 use Rattle.page_waits.specs.Left.{left}
@@ -65,22 +67,29 @@ module _ {S L : Type 0} (means : SystemMeaning S) (lists : ListsMeaning L) where
     pub each : (d : DrumWords) → Stands means.store.flat (held drum) d → means.fits s d
         → (e : DrumWords) × Stands means.store.flat (held drum') e × SameOver means s s' d e × (work x w' s' l' e + less ≤ work x w s l d)
 
-  -- units of a fork were done in a row: over each drum that fits they are legal, the plain state is the one that they leave, and the reply is what they show
+  -- units of a fork were done in a row: over each drum that fits they are legal, the plain state is the one that they leave, and the reply, which can be given, is what they show
   pub record Ran (f : ForkName) (done : Progress) (s s' : S) : Type 0 where
+    pub named : IsForkName f
+    pub gives : means.gives s' (showing.Reply done.reply)
     pub limit : means.limit s' ≡ means.limit s
     pub within : (n : ℕ) → means.within s n → means.within s' (n + done.count)
     pub each : (d : DrumWords) → means.fits s d
         → means.fits s' d × AreLegal true (means.plain s d) (row_of f done.count) × (means.plain s' d ≡ state_after (means.plain s d) (row_of f done.count))
-        × (means.items (means.plain s' d) done.reply ≡ items_of (means.plain s d) (row_of f done.count))
+        × (means.items (means.plain s' d) (showing.Reply done.reply) ≡ items_of (means.plain s d) (row_of f done.count))
 
   -- the same over what a drum told and tells
   pub record RanOver {D : Type 0} (held : D → Option DrumWords) (f : ForkName) (done : Progress) (s s' : S) (drum drum' : D) : Type 0 where
+    pub named : IsForkName f
+    pub gives : means.gives s' (showing.Reply done.reply)
+    pub within : (n : ℕ) → means.within s n → means.within s' (n + done.count)
     pub each : (d : DrumWords) → Stands means.store.flat (held drum) d → means.fits s d
         → (e : DrumWords) × Stands means.store.flat (held drum') e × means.fits s' e × AreLegal true (means.plain s d) (row_of f done.count)
-        × (means.plain s' e ≡ state_after (means.plain s d) (row_of f done.count)) × (means.items (means.plain s' e) done.reply ≡ items_of (means.plain s d) (row_of f done.count))
+        × (means.plain s' e ≡ state_after (means.plain s d) (row_of f done.count)) × (means.items (means.plain s' e) (showing.Reply done.reply) ≡ items_of (means.plain s d) (row_of f done.count))
 
   -- So many idle entries stand, since no unit can be done: each is legal, where idle entries are judged by this mark, and they leave the plain state as it is.
   pub record IdledOver {D : Type 0} (held : D → Option DrumWords) (auto : Bool) (count : ℕ) (s s' : S) (drum drum' : D) : Type 0 where
+    pub tree : means.tree s' ≡ means.tree s
+    pub within : (n : ℕ) → means.within s n → means.within s' n
     pub each : (d : DrumWords) → Stands means.store.flat (held drum) d → means.fits s d
         → (e : DrumWords) × Stands means.store.flat (held drum') e × means.fits s' e × (means.plain s' e ≡ means.plain s d)
         × AreLegal (judged_by means.store.flat auto) (means.plain s d) (replicate count AnIdle)
@@ -92,12 +101,14 @@ module _ {S L : Type 0} (means : SystemMeaning S) (lists : ListsMeaning L) where
 
   -- a deed was done, over each drum that fits
   pub record DidThere (d : Deed) (answer : Answer) (s s' : S) : Type 0 where
+    pub gives : means.gives s' answer.showing
     pub limit : means.limit s' ≡ means.limit s
     pub within : (n : ℕ) → means.within s n → means.within s' (n + entries_of d)
     pub each : (over : DrumWords) → means.fits s over → DidAcross means d s s' answer over over
 
   -- a deed was done, over what a drum told and tells
   pub record DidOver {D : Type 0} (held : D → Option DrumWords) (d : Deed) (answer : Answer) (s s' : S) (drum drum' : D) : Type 0 where
+    pub gives : means.gives s' answer.showing
     pub each : (over : DrumWords) → Stands means.store.flat (held drum) over → means.fits s over
         → (e : DrumWords) × Stands means.store.flat (held drum') e × DidAcross means d s s' answer over e
 

@@ -18,10 +18,6 @@ module _ {S : Type 0} {b : _} where
   abbrev pub limit : Machine S b → ℕ
   limit m = b.means.limit m.system
 
-  -- how many entries of runs are done
-  abbrev pub done : Machine S b → ℕ
-  done m = m.done
-
   -- the AUTO mark
   abbrev pub auto : Machine S b → Bool
   auto m = m.auto
@@ -30,8 +26,7 @@ module _ {S : Type 0} {b : _} where
   abbrev pub IsBare : Machine S b → Type 0
   IsBare m = b.means.store.holds m.system CONSOLE_HOLDER ≡ []
 
-  -- as many pages may live, as many entries are done, and the AUTO mark is the same
+  -- as many pages may live, and the AUTO mark is the same
   pub record KeepsMarks (old new : Machine S b) : Type 0 where
     pub limit : limit new ≡ limit old
-    pub done : done new ≡ done old
     pub auto : auto new ≡ auto old

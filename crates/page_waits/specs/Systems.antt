@@ -1,5 +1,6 @@
 -- What the clauses say of a system: the pages, the jobs with their forks, the files and the clock, of which a part is in core.
 use Rattle.std.specs.Prelude.{◌≡◌, ℕ, ◌+◌, ◌≤◌, List, length, true, false, IfSome, Option, replicate}
+use Rattle.machine_names.specs.Bounds.{IsForkName}
 use Rattle.machine_names.specs.declared.names.ForkName.{ForkName}
 use Rattle.script_texts.specs.declared.event.Item.{Item}
 use Rattle.script_texts.specs.declared.event.Step.{Step}
@@ -14,11 +15,13 @@ use Rattle.plain_model.specs.State.{PlainState}
 use Rattle.plain_model.specs.Trees.{PlainTree}
 use Rattle.plain_model.specs.Run.{AreLegal, items_of, state_after}
 use Rattle.event_deeds.specs.declared.deed.Deed.{Deed}
+use Rattle.event_deeds.specs.declared.deed.Deed.TheVariants.{Outer}
 use Rattle.event_deeds.specs.Deeds.{FitsDeed, Task, deed, deed_of, entries_of, unit_of}
 use Rattle.page_waits.specs.Seats.{UNHELD_FRAMES, has}
 use Rattle.step_shown.specs.declared.progress.Progress.{Progress}
 use Rattle.page_waits.specs.declared.answer.Answer.{Answer}
-use Rattle.step_shown.specs.declared.reply.Reply.{Reply}
+use Rattle.page_waits.specs.declared.answer.Showing.{Showing}
+use Rattle.page_waits.specs.declared.answer.Showing.TheVariants as showing
 
 -- as many frames as one task may want for the pages that it makes: a unit, or a deed, for which some may be held
 abbrev pub most_framed : Task → ℕ
@@ -52,8 +55,18 @@ pub record SystemMeaning (S : Type 0) : Type 1 where
   pub limit : S → ℕ
   -- its counts are no higher than so many entries let them be
   pub within : S → ℕ → Type 0
-  -- the items of a reply, in the state that a deed or a unit leaves
-  pub items : PlainState → Reply → List Item
+  -- the items of what is shown, in the state that a deed or units leave
+  pub items : PlainState → Showing → List Item
+  -- what is shown can be given: a page that is shown is in a frame
+  pub gives : S → Showing → Type 0
+
+-- a deed that may come behind another: a part of a character, within its limits
+abbrev pub IsPart : Deed → Type 0
+IsPart (Outer e) = ⊥
+IsPart d = Unit {0}
+
+abbrev pub IsNext : Deed → Type 0
+IsNext d = FitsDeed d × IsPart d
 
 -- so many units of a fork
 abbrev pub row_of : ForkName → ℕ → List Step
@@ -73,10 +86,11 @@ pub record SameOver {S : Type 0} (means : SystemMeaning S) (old new : S) (d e : 
   pub plain : means.plain new e ≡ means.plain old d
   pub wants : means.wants new e ≡ means.wants old d
 
--- over each drum that fits, the plain state is the same, and so is what each task refers to
+-- over each drum that fits, the plain state is the same, and so is what each task refers to; and what could be given still can
 pub record StaysState {S : Type 0} (means : SystemMeaning S) (old new : S) : Type 0 where
   pub told : StaysTold means old new
   pub each : (d : DrumWords) → means.fits old d → SameOver means old new d d
+  pub gives : (what : Showing) → means.gives old what → means.gives new what
 
 -- the same over what a drum told and tells
 pub record StaysOver {S D : Type 0} (means : SystemMeaning S) (held : D → Option DrumWords) (old new : S) (drum drum' : D) : Type 0 where
@@ -90,26 +104,29 @@ pub record Needs {S : Type 0} (means : SystemMeaning S) (x : Task) (old new : S)
   pub needed : IsNeeded means.store (most_framed x) new need
   pub wanted : (d : DrumWords) (home : Home) → means.fits new d → need ≡ Page home → has home.0 (means.wants new d x) ≡ true
 
--- units of a fork are done in a row: over each drum that fits they are legal, the plain state is the one that they leave, and the reply is what they show
+-- units of a fork are done in a row: over each drum that fits they are legal, the plain state is the one that they leave, and what they show is the reply, which can be given
 pub record DidUnits {S : Type 0} (means : SystemMeaning S) (f : ForkName) (old new : S) (done : Progress) : Type 0 where
   pub each : (d : DrumWords) → means.fits old d
       → means.fits new d × AreLegal true (means.plain old d) (row_of f done.count) × (means.plain new d ≡ state_after (means.plain old d) (row_of f done.count))
-      × (means.items (means.plain new d) done.reply ≡ items_of (means.plain old d) (row_of f done.count))
+      × (means.items (means.plain new d) (showing.Reply done.reply) ≡ items_of (means.plain old d) (row_of f done.count))
+  pub named : IsForkName f
+  pub gives : means.gives new (showing.Reply done.reply)
   pub limit : means.limit new ≡ means.limit old
   pub within : (n : ℕ) → means.within old n → means.within new (n + done.count)
   pub loses : Loses (traffic means.store old) (traffic means.store new)
 
--- over the words of drums before and after, a deed is done: the plain state is the one that it leaves, the reply is what it shows, and what comes next is told
+-- over the words of drums before and after, a deed is done: the plain state is the one that it leaves, what it shows is told, and what comes next
 pub record DidAcross {S : Type 0} (means : SystemMeaning S) (d : Deed) (old new : S) (answer : Answer) (over over' : DrumWords) : Type 0 where
   pub fits : means.fits new over'
   pub plain : means.plain new over' ≡ (deed (means.plain old over) d).state
-  pub items : means.items (means.plain new over') answer.reply ≡ (deed (means.plain old over) d).items
+  pub items : means.items (means.plain new over') answer.showing ≡ (deed (means.plain old over) d).items
   pub next : answer.next ≡ (deed (means.plain old over) d).next
 
--- a deed is done, over each drum that fits
+-- a deed is done, over each drum that fits; what it shows can be given
 pub record DidDeed {S : Type 0} (means : SystemMeaning S) (d : Deed) (old new : S) (answer : Answer) : Type 0 where
   pub each : (over : DrumWords) → means.fits old over → DidAcross means d old new answer over over
-  pub next : IfSome answer.next FitsDeed
+  pub next : IfSome answer.next IsNext
+  pub gives : means.gives new answer.showing
   pub limit : means.limit new ≡ means.limit old
   pub within : (n : ℕ) → means.within old n → means.within new (n + entries_of d)
   pub loses : Loses (traffic means.store old) (traffic means.store new)

@@ -35,6 +35,12 @@ pub record MovesSilently (old new : Schedule) : Type 0 where
   pub silent : List Silent
   pub are : new ≡ moved_silently silent old
 
+-- A deed was done, from these forks to those: what happened silently was before it; the lists followed the forks, and then some things were told.
+pub record TookDeed (before after : ForkMap) (old new : Schedule) : Type 0 where
+  pub begun : Schedule
+  pub silent : MovesSilently old begun
+  pub told : AllTold (moved (moves before after) begun) new
+
 -- A row of units of a fork was run, from these forks to those: what happened silently left it the head of the ready list; all units but the last were counted,
 -- the lists followed the forks, some things were told, and the last unit was counted.
 pub record TookRow (f : ForkName) (count : ℕ) (ended : Bool) (before after : ForkMap) (old new : Schedule) : Type 0 where

@@ -1,5 +1,5 @@
 // A transfer ends.
-ghost use Rattle.std.specs.Prelude.{◌≡◌, ◌+◌, ◌≤◌, ℕ, [], None};
+ghost use Rattle.std.specs.Prelude.{◌≡◌, ◌+◌, ◌≤◌, ℕ, [], None, drop};
 ghost use Rattle.outside.specs.Faults.{Rose};
 ghost use Rattle.event_deeds.specs.declared.deed.Deed.{Deed as ADeed};
 ghost use Rattle.page_contracts.specs.declared.answers.Need.{Need as ANeed};
@@ -37,6 +37,7 @@ pub fn complete<S: System, D: Drum>(
     ensures done { (n : ANeed) (x : AnOption ADeed) → result ≡ Completed.Done n → Quiet S.means the_lists D.held x console (woken n console) 1 system.old system.new lists.old lists.new drum.old drum.new }
     ensures fewer { (n : ANeed) (x : ADeed) → result ≡ Completed.Done n → told_work S.means the_lists x (woken n console) system.new lists.new + 1 ≤ told_work S.means the_lists x console system.old lists.old }
     ensures told { (n : ANeed) → result ≡ Completed.Done n → lists.new.sched ≡ arrived lists.old.sched n }
+    ensures oldest { (n : ANeed) → result ≡ Completed.Done n → S.means.store.queue system.new ≡ drop 1 (S.means.store.queue system.old) }
     ensures seated { the_lists.member lists.new ≡ the_lists.member lists.old }
     ensures moved { (n : ANeed) → result ≡ Completed.Done n → Moved (record { reads = D.read_count; writes = D.write_count }) 1 drum.old drum.new }
     ensures reads { D.read_count drum.old ≤ D.read_count drum.new }

@@ -13,7 +13,7 @@ mod system;
 mod turn;
 mod waking;
 
-pub use answer::Answer;
+pub use answer::{Answer, Showing};
 pub use head::Head;
 pub use laws::{waits_are_awaited, who_waits_is_ready_again};
 pub use machine::Machine;

@@ -10,8 +10,6 @@ use fork_lists::ForkLists;
 pub struct Machine<S: System> {
     system: S,
     lists: ForkLists,
-    /// How many entries of runs are done.
-    done: u64,
     /// A run completes transfers by itself.
     auto: bool,
     // Who waits is awaited, and what is held is held for members.
@@ -24,3 +22,4 @@ mod boot;
 mod bringing;
 mod looking;
 mod moving;
+mod showing;

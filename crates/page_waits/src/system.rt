@@ -1,5 +1,6 @@
 // The pages, the jobs with their forks, the files and the clock.
-ghost use Rattle.std.specs.Prelude.{◌≡◌, ◌↔◌, ◌<◌, ◌-◌, ◌≤◌, ◌^◌, ℕ, [], false, length, true, Err, IfErr, IfOk};
+ghost use Rattle.std.specs.Prelude.{◌≡◌, ◌↔◌, ◌<◌, ◌-◌, ◌≤◌, ◌^◌, ℕ, [], false, length, true, Err, IfErr, IfOk, OnErr, OnOk, is_some};
+ghost use Rattle.std.specs.FinMap as map;
 ghost use Rattle.event_deeds.specs.Deeds.{FitsDeed, IsTold, Task, deed_of, unit_of};
 ghost use Rattle.event_deeds.specs.declared.deed.Deed.{Deed as ADeed};
 ghost use Rattle.fork_lists.specs.Ties.{AreTied};
@@ -7,6 +8,8 @@ ghost use Rattle.fork_tree.specs.Trees.{IsTree};
 ghost use Rattle.job_sched.specs.Schedules.{heads, size};
 ghost use Rattle.job_sched.specs.Ties.{WaitsLess};
 ghost use Rattle.job_sched.specs.Units.{IsRow, row_ran};
+ghost use Rattle.machine_names.specs.Bounds.{IsTerminal};
+ghost use Rattle.outside.specs.Faults.{Rose};
 ghost use Rattle.page_contracts.specs.DrumWords.{DrumWords};
 ghost use Rattle.page_contracts.specs.Stores.{CanFetch, CanKeep, Completes, Evicts, IsFetched, Keeps, LetsGo, Tells, awaited, meeting, most_held};
 ghost use Rattle.page_contracts.specs.declared.answers.Need.{Need as ANeed};
@@ -14,18 +17,21 @@ ghost use Rattle.page_contracts.specs.declared.store.TheConstants.{MOST_HELD_FOR
 ghost use Rattle.page_homes.specs.declared.homes.Home.{Home as AHome};
 ghost use Rattle.plain_model.specs.Forks.{IsRunnable};
 ghost use Rattle.plain_model.specs.Moves.{moves};
+ghost use Rattle.plain_model.specs.Trees.{tree_of};
+ghost use Rattle.script_texts.specs.Taker.{GoesOn, IsCut, StaysOnward};
 ghost use Rattle.turn_forms.specs.Turns.{moved};
 ghost use Rattle.page_waits.specs.Seats.{has};
 ghost use Rattle.page_waits.specs.Systems.{DidDeed, DidUnits, IsHoused, Needs, StaysOver, StaysState, StaysTold, SystemMeaning, most_wanted};
 
-use crate::answer::Answer;
+use crate::answer::{Answer, Showing};
 use event_deeds::Deed;
 use fork_lists::ForkLists;
 use fork_tree::Tree;
-use machine_names::ForkName;
-use outside::Drum;
+use machine_names::{ForkName, Tty};
+use outside::{Drum, Failed};
 use page_contracts::{Completed, Need};
 use page_homes::{FrameId, Home};
+use script_texts::Taker;
 use step_shown::Progress;
 
 /// A system of which a part is in core: a unit or a deed is done whole, and the lists follow its forks; or it needs something first.
@@ -116,11 +122,25 @@ pub trait System {
         ensures lets_go { LetsGo means.store holder self.old self.new }
         ensures state { StaysState means self.old self.new };
 
+    /// Whether a terminal has a job.
+    fn has_job(&self, t: Tty) -> bool
+        requires { IsTerminal t }
+        ensures { (d : DrumWords) → means.fits self.now d → result ≡ is_some (map.get (means.plain self.now d).jobs t.0) };
+
+    /// Gives what was shown to a taker, item by item. Fails only where its count of faults rises.
+    fn give<T: Taker>(&self, what: &Showing, out: &mut T) -> Result<(), Failed>
+        requires gives { means.gives self.now what.now }
+        ensures later { T.fault_count out.old ≤ T.fault_count out.new }
+        ensures cause { OnErr result (Rose (T.fault_count out.old) (T.fault_count out.new)) }
+        ensures onward { StaysOnward T.onward out.old out.new }
+        ensures ok { OnOk result ((d : DrumWords) → means.fits self.now d → GoesOn T.stands out.old out.new (means.items (means.plain self.now d) what.now) []) }
+        ensures err { OnErr result ((d : DrumWords) → means.fits self.now d → IsCut T.stands T.cut out.old out.new (means.items (means.plain self.now d) what.now) []) };
+
     /// What holds of each system: its store.
     ghost housed: { (s : Self) → IsHoused means.store s };
 
-    /// Over each drum that fits, the forks are those that are told without it.
-    ghost forked: { (s : Self) (d : DrumWords) → means.fits s d → (means.plain s d).forks ≡ (means.tree s).forks };
+    /// Over each drum that fits, the forks and the serials are those that are told without it.
+    ghost forked: { (s : Self) (d : DrumWords) → means.fits s d → tree_of (means.plain s d) ≡ means.tree s };
 
     /// Of few pages and maps the tables tell that a deed refers to them.
     ghost told_few: { (s : Self) (deed : ADeed) → length (means.told s deed) < MOST_HELD_FOR_CONSOLE };

@@ -2,7 +2,7 @@
 ghost use Rattle.std.specs.Prelude.{◌≡◌, ◌≤◌, ℕ, [], true};
 ghost use Rattle.fork_lists.specs.Ties.{AreTied};
 ghost use Rattle.job_sched.specs.Schedules.{size};
-ghost use Rattle.page_waits.specs.Machines.{auto, done};
+ghost use Rattle.page_waits.specs.Machines.{auto};
 
 use crate::System;
 use crate::machine::Machine;
@@ -18,21 +18,12 @@ impl<S: System> Machine<S> {
         requires tied { AreTied (S.means.tree system).forks lists }
         ensures system { result.system ≡ system }
         ensures lists { result.lists ≡ lists }
-        ensures none { done result ≡ 0 }
         ensures on { auto result ≡ true }
     {
         Machine {
             system,
             lists,
-            done: 0,
             auto: true,
         }
-    }
-
-    /// The system.
-    pub fn system(&self) -> &S
-        ensures { result.now ≡ self.now.system }
-    {
-        &self.system
     }
 }

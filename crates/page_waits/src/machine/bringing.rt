@@ -8,8 +8,9 @@ ghost use Rattle.plain_model.specs.Moves.{moves};
 ghost use Rattle.turn_forms.specs.Turns.{moved};
 ghost use Rattle.page_waits.specs.Acts.{DidOver, DidThere, Quiet, Spent, Still, told_work};
 ghost use Rattle.page_waits.specs.Holders.{AreReleased};
-ghost use Rattle.page_waits.specs.Machines.{IsBare, KeepsMarks, auto, done, limit};
-ghost use Rattle.page_waits.specs.Told.{AllTold};
+ghost use Rattle.page_waits.specs.Machines.{IsBare, KeepsMarks, auto, limit};
+ghost use Rattle.page_waits.specs.Systems.{IsNext, StaysTold};
+ghost use Rattle.page_waits.specs.Told.{AllTold, MovesSilently, TookDeed};
 ghost use Rattle.page_waits.specs.Waits.{AreAwaited, the_lists, waits_with, woken};
 ghost use Rattle.page_waits.specs.declared.answer.Answer.{Answer as AnAnswer};
 
@@ -42,16 +43,14 @@ impl<S: System> Machine<S> {
     fn ask(&mut self, deed: &Deed) -> Result<Answer, Need>
         requires fits { FitsDeed deed.now }
         requires within { S.means.within self.old.system (2 ^ 52) }
-        requires few { done self.old < 2 ^ 52 }
         ensures did { IfOk result (λ answer. DidThere S.means the_lists deed.now answer self.old.system self.new.system) }
-        ensures next { IfOk result (λ answer. IfSome answer.next FitsDeed) }
+        ensures next { IfOk result (λ answer. IfSome answer.next IsNext) }
         ensures lists { IfOk result (λ answer. AllTold (moved (moves (S.means.tree self.old.system).forks (S.means.tree self.new.system).forks) self.old.lists.sched) self.new.lists.sched) }
         ensures released { IfOk result (λ answer. AreReleased (the_lists.member self.old.lists) (the_lists.member self.new.lists) (S.means.store.holds self.new.system)) }
         ensures bare { IfOk result (λ answer. IsBare self.new) }
-        ensures counts { IfOk result (λ answer. done self.new ≡ done self.old + entries_of deed.now) }
         ensures still { (n : ANeed) → result ≡ Err n → Still S.means the_lists (Some deed.now) None (Some n) self.old.system self.new.system self.old.lists self.new.lists }
         ensures limit { limit self.new ≡ limit self.old }
-        ensures count { (n : ANeed) → result ≡ Err n → done self.new ≡ done self.old }
+        ensures stays { (n : ANeed) → result ≡ Err n → self.new.lists ≡ self.old.lists }
         ensures fewer { (n : ANeed) → IsTold deed.now → result ≡ Err n → told_work S.means the_lists deed.now (Some n) self.new.system self.new.lists ≤ told_work S.means the_lists deed.now None self.old.system self.old.lists }
         ensures awaited { (n : ANeed) → result ≡ Err n → AreAwaited S.means (waits_with (Some n) (the_lists.waiting self.new.lists)) self.new.system }
         ensures mark { auto self.new ≡ auto self.old }
@@ -63,7 +62,6 @@ impl<S: System> Machine<S> {
                 self.system.let_go(CONSOLE_HOLDER);
                 tell(&mut self.system, &mut self.lists);
                 release_left(&mut self.system, &self.lists, &holders);
-                self.done += u64::from(deed.entries());
                 Ok(answer)
             }
             Err(need) => Err(self.system.fetch(need)),
@@ -77,8 +75,11 @@ impl<S: System> Machine<S> {
         ensures later { D.fault_count drum.old ≤ D.fault_count drum.new }
         ensures cause { OnErr result (Rose (D.fault_count drum.old) (D.fault_count drum.new)) }
         ensures size { D.size drum.new ≡ D.size drum.old }
+        ensures reads { D.read_count drum.old ≤ D.read_count drum.new }
+        ensures writes { D.write_count drum.old ≤ D.write_count drum.new }
         ensures quiet { (w : AnOption ANeed) (x : AnOption ADeed) → result ≡ Ok w → Quiet S.means the_lists D.held x (Some need) w 1 self.old.system self.new.system self.old.lists self.new.lists drum.old drum.new }
         ensures fewer { (w : AnOption ANeed) (x : ADeed) → result ≡ Ok w → told_work S.means the_lists x w self.new.system self.new.lists + 1 ≤ told_work S.means the_lists x (Some need) self.old.system self.old.lists }
+        ensures silent { (w : AnOption ANeed) → result ≡ Ok w → MovesSilently self.old.lists.sched self.new.lists.sched }
         ensures awaited { (w : AnOption ANeed) → result ≡ Ok w → AreAwaited S.means (waits_with w (the_lists.waiting self.new.lists)) self.new.system }
         ensures marks { KeepsMarks self.old self.new }
     {
@@ -93,6 +94,8 @@ impl<S: System> Machine<S> {
     // Nothing is held for the console any more.
     fn release(&mut self)
         ensures none { IsBare self.new }
+        ensures lists { self.new.lists ≡ self.old.lists }
+        ensures told { StaysTold S.means self.old.system self.new.system }
         ensures marks { KeepsMarks self.old self.new }
     {
         self.system.let_go(CONSOLE_HOLDER);
@@ -103,13 +106,17 @@ impl<S: System> Machine<S> {
         requires drum { limit self.old ≤ D.size drum.old }
         requires fits { FitsDeed deed.now }
         requires within { S.means.within self.old.system (2 ^ 52) }
-        requires few { done self.old < 2 ^ 52 }
         ensures later { D.fault_count drum.old ≤ D.fault_count drum.new }
         ensures cause { OnErr result (Rose (D.fault_count drum.old) (D.fault_count drum.new)) }
         ensures size { D.size drum.new ≡ D.size drum.old }
+        ensures reads { D.read_count drum.old ≤ D.read_count drum.new }
+        ensures writes { D.write_count drum.old ≤ D.write_count drum.new }
         ensures did { (answer : AnAnswer) → result ≡ Ok (Some answer) → DidOver S.means the_lists D.held deed.now answer self.old.system self.new.system drum.old drum.new }
-        ensures next { (answer : AnAnswer) → result ≡ Ok (Some answer) → IfSome answer.next FitsDeed }
+        ensures next { (answer : AnAnswer) → result ≡ Ok (Some answer) → IfSome answer.next IsNext }
         ensures within { (answer : AnAnswer) (n : ℕ) → result ≡ Ok (Some answer) → S.means.within self.old.system n → S.means.within self.new.system (n + entries_of deed.now) }
+        ensures took { (answer : AnAnswer) → result ≡ Ok (Some answer) → TookDeed (S.means.tree self.old.system).forks (S.means.tree self.new.system).forks self.old.lists.sched self.new.lists.sched }
+        ensures silent { result ≡ Ok None → MovesSilently self.old.lists.sched self.new.lists.sched }
+        ensures kept { result ≡ Ok None → StaysTold S.means self.old.system self.new.system }
         ensures spent { result ≡ Ok None → Spent S.means the_lists D.held self.old.system drum.old }
         ensures bare { IfOk result (λ came. IsBare self.new) }
         ensures limit { limit self.new ≡ limit self.old }
@@ -146,13 +153,15 @@ impl<S: System> Machine<S> {
         requires fits { FitsDeed deed.now }
         requires told { IsTold deed.now }
         requires within { S.means.within self.old.system (2 ^ 52) }
-        requires few { done self.old < 2 ^ 52 }
         ensures later { D.fault_count drum.old ≤ D.fault_count drum.new }
         ensures cause { OnErr result (Rose (D.fault_count drum.old) (D.fault_count drum.new)) }
         ensures size { D.size drum.new ≡ D.size drum.old }
+        ensures reads { D.read_count drum.old ≤ D.read_count drum.new }
+        ensures writes { D.write_count drum.old ≤ D.write_count drum.new }
         ensures did { IfOk result (λ answer. DidOver S.means the_lists D.held deed.now answer self.old.system self.new.system drum.old drum.new) }
-        ensures next { IfOk result (λ answer. IfSome answer.next FitsDeed) }
+        ensures next { IfOk result (λ answer. IfSome answer.next IsNext) }
         ensures within { IfOk result (λ answer. (n : ℕ) → S.means.within self.old.system n → S.means.within self.new.system (n + entries_of deed.now)) }
+        ensures took { IfOk result (λ answer. TookDeed (S.means.tree self.old.system).forks (S.means.tree self.new.system).forks self.old.lists.sched self.new.lists.sched) }
         ensures bare { IfOk result (λ answer. IsBare self.new) }
         ensures limit { limit self.new ≡ limit self.old }
         ensures mark { auto self.new ≡ auto self.old }

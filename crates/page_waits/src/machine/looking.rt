@@ -1,5 +1,5 @@
 // The look for units: heads of the ready list are planned, and transfers end.
-ghost use Rattle.std.specs.Prelude.{◌≡◌, ◌≢◌, ◌+◌, ◌-◌, ◌<◌, ◌≤◌, ◌^◌, [], ℕ, false, true, None, Ok, IfSome, IfOk, OnErr, length};
+ghost use Rattle.std.specs.Prelude.{◌≡◌, ◌≢◌, ◌+◌, ◌-◌, ◌<◌, ◌≤◌, ◌^◌, [], ℕ, false, true, None, Ok, IfSome, IfOk, OnErr, length, drop};
 ghost use Rattle.fork_lists.specs.Following.{last_counted};
 ghost use Rattle.fork_lists.specs.Ties.{AreTied};
 ghost use Rattle.job_sched.specs.Schedules.{arrived, heads};
@@ -15,7 +15,7 @@ ghost use Rattle.turn_forms.specs.Turns.{moved};
 ghost use Rattle.page_waits.specs.Acts.{IdledOver, Quiet, Ran, RanOver, Still, Turned, turns_of};
 ghost use Rattle.page_waits.specs.Holders.{AreAll, AreReleased, holder_at};
 ghost use Rattle.page_waits.specs.Idling.{IsIdle, Moved};
-ghost use Rattle.page_waits.specs.Machines.{IsBare, KeepsMarks, auto, done, limit};
+ghost use Rattle.page_waits.specs.Machines.{IsBare, KeepsMarks, auto, limit};
 ghost use Rattle.page_waits.specs.Systems.{StaysState};
 ghost use Rattle.page_waits.specs.Told.{LastCounted, MovesSilently, TookRow, ends_quantum};
 ghost use Rattle.page_waits.specs.Waits.{AreAwaited, AreStanding, IsHead, the_lists};
@@ -101,13 +101,11 @@ impl<S: System> Machine<S> {
         requires bare { IsBare self.old }
         requires some { 1 ≤ left }
         requires within { S.means.within self.old.system (2 ^ 52) }
-        requires few { done self.old < 2 ^ 52 }
         ensures did { IfSome result (λ u. Ran S.means the_lists u.fork u.progress self.old.system self.new.system) }
         ensures row { IfSome result (λ u. TookRow u.fork u.progress.count u.ended (S.means.tree self.old.system).forks (S.means.tree self.new.system).forks self.old.lists.sched self.new.lists.sched) }
         ensures released { IfSome result (λ u. AreReleased (the_lists.member self.old.lists) (the_lists.member self.new.lists) (S.means.store.holds self.new.system)) }
         ensures some { IfSome result (λ u. 1 ≤ u.progress.count) }
         ensures few { IfSome result (λ u. u.progress.count ≤ left) }
-        ensures counts { IfSome result (λ u. done self.new ≡ done self.old + u.progress.count) }
         ensures still { result ≡ None → Still S.means the_lists None None None self.old.system self.new.system self.old.lists self.new.lists }
         ensures silent { result ≡ None → MovesSilently self.old.lists.sched self.new.lists.sched }
         ensures seated { result ≡ None → the_lists.member self.new.lists ≡ the_lists.member self.old.lists }
@@ -115,7 +113,6 @@ impl<S: System> Machine<S> {
         ensures bare { IsBare self.new }
         ensures limit { limit self.new ≡ limit self.old }
         ensures mark { auto self.new ≡ auto self.old }
-        ensures count { result ≡ None → done self.new ≡ done self.old }
     {
         self.lists.sound();
         let holders = held_members(&self.system, &self.lists);
@@ -123,7 +120,6 @@ impl<S: System> Machine<S> {
         match self.system.units(&mut self.lists, head.fork, most) {
             Ok(progress) => {
                 let ended = finish(&mut self.system, &mut self.lists, head, &holders);
-                self.done += u64::from(progress.count);
                 Some(Done {
                     fork: head.fork,
                     progress,
@@ -143,13 +139,11 @@ impl<S: System> Machine<S> {
         requires bare { IsBare self.old }
         requires some { 1 ≤ left }
         requires within { S.means.within self.old.system (2 ^ 52) }
-        requires few { done self.old < 2 ^ 52 }
         ensures did { IfSome result (λ u. Ran S.means the_lists u.fork u.progress self.old.system self.new.system) }
         ensures row { IfSome result (λ u. TookRow u.fork u.progress.count u.ended (S.means.tree self.old.system).forks (S.means.tree self.new.system).forks self.old.lists.sched self.new.lists.sched) }
         ensures released { IfSome result (λ u. AreReleased (the_lists.member self.old.lists) (the_lists.member self.new.lists) (S.means.store.holds self.new.system)) }
         ensures some { IfSome result (λ u. 1 ≤ u.progress.count) }
         ensures few { IfSome result (λ u. u.progress.count ≤ left) }
-        ensures counts { IfSome result (λ u. done self.new ≡ done self.old + u.progress.count) }
         ensures still { result ≡ None → Still S.means the_lists None None None self.old.system self.new.system self.old.lists self.new.lists }
         ensures silent { result ≡ None → MovesSilently self.old.lists.sched self.new.lists.sched }
         ensures seated { result ≡ None → the_lists.member self.new.lists ≡ the_lists.member self.old.lists }
@@ -158,7 +152,6 @@ impl<S: System> Machine<S> {
         ensures bare { IsBare self.new }
         ensures limit { limit self.new ≡ limit self.old }
         ensures mark { auto self.new ≡ auto self.old }
-        ensures count { result ≡ None → done self.new ≡ done self.old }
     {
         while let Some(head) = next_head(&self.lists, self.system.forks()) {
             if let Some(u) = self.plan(head, left) {
@@ -174,12 +167,13 @@ impl<S: System> Machine<S> {
         ensures later { D.fault_count drum.old ≤ D.fault_count drum.new }
         ensures cause { result ≡ Completed.DrumFault → Rose (D.fault_count drum.old) (D.fault_count drum.new) }
         ensures size { D.size drum.new ≡ D.size drum.old }
+        ensures reads { D.read_count drum.old ≤ D.read_count drum.new }
+        ensures writes { D.write_count drum.old ≤ D.write_count drum.new }
         ensures done { (n : ANeed) → result ≡ Completed.Done n → Quiet S.means the_lists D.held None None None 1 self.old.system self.new.system self.old.lists self.new.lists drum.old drum.new }
         ensures moved { (n : ANeed) → result ≡ Completed.Done n → Moved (record { reads = D.read_count; writes = D.write_count }) 1 drum.old drum.new }
         ensures told { (n : ANeed) → result ≡ Completed.Done n → self.new.lists.sched ≡ arrived self.old.lists.sched n }
+        ensures oldest { (n : ANeed) → result ≡ Completed.Done n → S.means.store.queue self.new.system ≡ drop 1 (S.means.store.queue self.old.system) }
         ensures seated { the_lists.member self.new.lists ≡ the_lists.member self.old.lists }
-        ensures reads { D.read_count drum.old ≤ D.read_count drum.new }
-        ensures writes { D.write_count drum.old ≤ D.write_count drum.new }
         ensures nothing { result ≡ Completed.Nothing → S.means.store.queue self.old.system ≡ [] }
         ensures system { result ≡ Completed.Nothing → self.new.system ≡ self.old.system }
         ensures lists { result ≡ Completed.Nothing → self.new.lists ≡ self.old.lists }
@@ -196,22 +190,23 @@ impl<S: System> Machine<S> {
         requires bare { IsBare self.old }
         requires some { 1 ≤ most }
         requires within { S.means.within self.old.system (2 ^ 52) }
-        requires few { done self.old < 2 ^ 52 }
         ensures later { D.fault_count drum.old ≤ D.fault_count drum.new }
         ensures cause { OnErr result (Rose (D.fault_count drum.old) (D.fault_count drum.new)) }
         ensures size { D.size drum.new ≡ D.size drum.old }
+        ensures reads { D.read_count drum.old ≤ D.read_count drum.new }
+        ensures writes { D.write_count drum.old ≤ D.write_count drum.new }
         ensures idle { result ≡ Ok None → IsIdle S.means the_lists (record { reads = D.read_count; writes = D.write_count }) (auto self.old) self.new.system self.new.lists drum.old drum.new }
         ensures idled { (count : ℕ) → result ≡ Ok None → IdledOver S.means the_lists D.held (auto self.old) count self.old.system self.new.system drum.old drum.new }
         ensures did { IfOk result (λ came. IfSome came (λ u. RanOver S.means the_lists D.held u.fork u.progress self.old.system self.new.system drum.old drum.new)) }
         ensures row { IfOk result (λ came. IfSome came (λ u. TookRow u.fork u.progress.count u.ended (S.means.tree self.old.system).forks (S.means.tree self.new.system).forks self.old.lists.sched self.new.lists.sched)) }
         ensures released { IfOk result (λ came. IfSome came (λ u. AreReleased (the_lists.member self.old.lists) (the_lists.member self.new.lists) (S.means.store.holds self.new.system))) }
+        ensures silent { result ≡ Ok None → MovesSilently self.old.lists.sched self.new.lists.sched }
         ensures some { IfOk result (λ came. IfSome came (λ u. 1 ≤ u.progress.count)) }
         ensures few { IfOk result (λ came. IfSome came (λ u. u.progress.count ≤ most)) }
         ensures off { auto self.old ≡ false → drum.new ≡ drum.old }
         ensures bare { IsBare self.new }
         ensures limit { limit self.new ≡ limit self.old }
         ensures mark { auto self.new ≡ auto self.old }
-        ensures count { result ≡ Ok None → done self.new ≡ done self.old }
     {
         let mut left = MOST_TRANSFERS;
         loop {
@@ -252,14 +247,16 @@ impl<S: System> Machine<S> {
         requires bare { IsBare self.old }
         requires some { 1 ≤ most }
         requires within { S.means.within self.old.system (2 ^ 52) }
-        requires few { done self.old < 2 ^ 52 }
         ensures later { D.fault_count drum.old ≤ D.fault_count drum.new }
         ensures cause { OnErr result (Rose (D.fault_count drum.old) (D.fault_count drum.new)) }
         ensures size { D.size drum.new ≡ D.size drum.old }
+        ensures reads { D.read_count drum.old ≤ D.read_count drum.new }
+        ensures writes { D.write_count drum.old ≤ D.write_count drum.new }
         ensures turned { IfOk result (Turned S.means the_lists D.held (auto self.old) self.old.system self.new.system drum.old drum.new) }
         ensures row { (u : ADone) → result ≡ Ok (Turn.Ran u) → TookRow u.fork u.progress.count u.ended (S.means.tree self.old.system).forks (S.means.tree self.new.system).forks self.old.lists.sched self.new.lists.sched }
         ensures released { (u : ADone) → result ≡ Ok (Turn.Ran u) → AreReleased (the_lists.member self.old.lists) (the_lists.member self.new.lists) (S.means.store.holds self.new.system) }
         ensures idle { (n : ℕ) → result ≡ Ok (Turn.Idle n) → IsIdle S.means the_lists (record { reads = D.read_count; writes = D.write_count }) (auto self.old) self.new.system self.new.lists drum.old drum.new }
+        ensures silent { (n : ℕ) → result ≡ Ok (Turn.Idle n) → MovesSilently self.old.lists.sched self.new.lists.sched }
         ensures some { IfOk result (λ turn. 1 ≤ turns_of turn) }
         ensures most { IfOk result (λ turn. turns_of turn ≤ most) }
         ensures off { auto self.old ≡ false → drum.new ≡ drum.old }
@@ -269,11 +266,7 @@ impl<S: System> Machine<S> {
     {
         match self.look(most, drum)? {
             Some(u) => Ok(Turn::Ran(u)),
-            None => {
-                let count = self.idle_turns(most);
-                self.done += u64::from(count);
-                Ok(Turn::Idle(count))
-            }
+            None => Ok(Turn::Idle(self.idle_turns(most))),
         }
     }
 }

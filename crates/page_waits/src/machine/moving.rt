@@ -1,10 +1,11 @@
 // What a script asks of frames and transfers, and the end of a quantum.
-ghost use Rattle.std.specs.Prelude.{◌≡◌, ◌≤◌, None, OnErr, OnOk};
+ghost use Rattle.std.specs.Prelude.{◌≡◌, ◌≤◌, ◌&&◌, None, OnErr, OnOk, drop, false, true};
 ghost use Rattle.outside.specs.Faults.{Rose};
 ghost use Rattle.page_contracts.specs.Stores.{Evicts};
 ghost use Rattle.page_waits.specs.Acts.{Quiet};
-ghost use Rattle.page_waits.specs.Machines.{IsBare, KeepsMarks, auto, done, limit};
+ghost use Rattle.page_waits.specs.Machines.{IsBare, KeepsMarks, auto, limit};
 ghost use Rattle.page_waits.specs.Systems.{StaysState};
+ghost use Rattle.page_waits.specs.Told.{MovesSilently};
 ghost use Rattle.page_waits.specs.Waits.{the_lists};
 
 use crate::System;
@@ -32,7 +33,11 @@ impl<S: System> Machine<S> {
         ensures later { D.fault_count drum.old ≤ D.fault_count drum.new }
         ensures cause { OnErr result (Rose (D.fault_count drum.old) (D.fault_count drum.new)) }
         ensures size { D.size drum.new ≡ D.size drum.old }
+        ensures reads { D.read_count drum.old ≤ D.read_count drum.new }
+        ensures writes { D.write_count drum.old ≤ D.write_count drum.new }
         ensures quiet { OnOk result (Quiet S.means the_lists D.held None None None 0 self.old.system self.new.system self.old.lists self.new.lists drum.old drum.new) }
+        ensures oldest { OnOk result (S.means.store.queue self.new.system ≡ drop n (S.means.store.queue self.old.system)) }
+        ensures silent { OnOk result (MovesSilently self.old.lists.sched self.new.lists.sched) }
         ensures bare { IsBare self.new }
         ensures marks { KeepsMarks self.old self.new }
     {
@@ -51,7 +56,6 @@ impl<S: System> Machine<S> {
         ensures mark { auto self.new ≡ on }
         ensures system { self.new.system ≡ self.old.system }
         ensures lists { self.new.lists ≡ self.old.lists }
-        ensures count { done self.new ≡ done self.old }
     {
         self.auto = on;
     }
@@ -63,7 +67,12 @@ impl<S: System> Machine<S> {
         ensures later { D.fault_count drum.old ≤ D.fault_count drum.new }
         ensures cause { OnErr result (Rose (D.fault_count drum.old) (D.fault_count drum.new)) }
         ensures size { D.size drum.new ≡ D.size drum.old }
+        ensures reads { D.read_count drum.old ≤ D.read_count drum.new }
+        ensures writes { D.write_count drum.old ≤ D.write_count drum.new }
         ensures quiet { OnOk result (Quiet S.means the_lists D.held None None None 0 self.old.system self.new.system self.old.lists self.new.lists drum.old drum.new) }
+        ensures ended { (ended && auto self.old) ≡ true → OnOk result (S.means.store.queue self.new.system ≡ drop 1 (S.means.store.queue self.old.system)) }
+        ensures still { (ended && auto self.old) ≡ false → drum.new ≡ drum.old }
+        ensures silent { OnOk result (MovesSilently self.old.lists.sched self.new.lists.sched) }
         ensures bare { IsBare self.new }
         ensures marks { KeepsMarks self.old self.new }
     {

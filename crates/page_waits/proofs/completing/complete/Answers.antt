@@ -1,4 +1,4 @@
-use Rattle.std.proofs.Common.{◌≡◌, ◌+◌, ◌≤◌, ℕ, List, cond, None, arith, subst, ap, refl, sym, ◌∙◌, inl, inr}
+use Rattle.std.proofs.Common.{◌≡◌, ◌+◌, ◌≤◌, ℕ, List, cond, None, drop, arith, subst, ap, refl, sym, ◌∙◌, inl, inr}
 use Rattle.page_contracts.specs.declared.answers.Need.TheVariants.{Page, Frame}
 use Rattle.page_contracts.specs.declared.answers.Need.{Need}
 use Rattle.page_contracts.specs.declared.store.Completed.{Completed}
@@ -83,3 +83,6 @@ returns-in-Done-clause-fewer g c n x is =
     (told_ended g.S.System.means the_lists g.D.Drum.held c.args.system.now c.complete.new.self c.hold_needed.new.system c.args.lists.now c.wake.new.lists c.in-Done.need c.args.drum.now c.complete.new.drum
     (c.in-Done.ensures.ends.done c.in-Done.need refl) c.in-Done.ensures.told (c.in-Done.ensures.over (λ e. cc e)) None c.args.console c.hold_needed.ensures.holds c.hold_needed.ensures.there c.hold_needed.ensures.queued c.hold_needed.ensures.state c.wake.ensures.wakes
     (g.met.S.System.housed c.args.system.now) (λ d y fits. g.met.S.System.wants_few c.args.system.now d y fits) x (g.met.S.System.told_few c.args.system.now x))
+
+pub returns-in-Done-clause-oldest : goal.returns-in-Done-clause-oldest
+returns-in-Done-clause-oldest g c n is = c.hold_needed.ensures.queued.queue ∙ sym (ap (drop 1) (c.in-Done.ensures.ends.done c.in-Done.need refl).oldest)

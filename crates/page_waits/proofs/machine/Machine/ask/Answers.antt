@@ -74,6 +74,7 @@ returns-in-Ok-clause-did g c =
     let left = c.release_left.ensures.state in
     let n = entries_of c.args.deed.now in
     record {
+      gives = left.gives c.in-Ok.answer.showing (told.gives c.in-Ok.answer.showing (gone.gives c.in-Ok.answer.showing did.gives));
       limit = left.told.limit ∙ told.told.limit ∙ gone.told.limit ∙ did.limit;
       within = λ k w. left.told.within (k + n) (told.told.within (k + n) (gone.told.within (k + n) (did.within k w)));
       each = λ d fits.
@@ -84,7 +85,7 @@ returns-in-Ok-clause-did g c =
           record {
             fits = u.fits;
             plain = u.plain ∙ v.plain ∙ z.plain ∙ y.plain;
-            items = ap (λ p. g.S.System.means.items p c.in-Ok.answer.reply) (u.plain ∙ v.plain ∙ z.plain) ∙ y.items;
+            items = ap (λ p. g.S.System.means.items p c.in-Ok.answer.showing) (u.plain ∙ v.plain ∙ z.plain) ∙ y.items;
             next = y.next;
           };
     }

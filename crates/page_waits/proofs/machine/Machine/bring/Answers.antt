@@ -1,8 +1,15 @@
-use Rattle.std.proofs.Common.{◌≡◌, ◌+◌, ◌-◌, ◌∙◌, refl, subst, arith}
+use Rattle.std.proofs.Common.{◌≡◌, ◌+◌, ◌-◌, ◌∙◌, refl, sym, subst, arith}
 use Rattle.std.specs.Prelude.{None, Some}
 use Rattle.page_waits.specs.Acts.{Quiet}
 use Rattle.page_waits.specs.Waits.{the_lists}
 use Rattle.page_waits.proofs.Marks.{marks_then}
+use Rattle.plain_model.specs.Moves.{moves}
+use Rattle.plain_model.specs.Trees.{PlainTree}
+use Rattle.turn_forms.specs.Turns.{moved}
+use Rattle.fork_lists.specs.declared.lists.ForkLists.{ForkLists}
+use Rattle.page_waits.specs.Told.{AllTold, MovesSilently}
+use Rattle.page_waits.proofs.Silence.{deed_behind, silent_then}
+use Rattle.page_waits.proofs.Staying.{told_then}
 use Rattle.page_waits.proofs.Quieting.{quiet_then, spent}
 use Rattle.page_waits.proofs.machine.Machine.bring.Goals as goal
 
@@ -25,6 +32,21 @@ loop-waits-preserved g c =
       awaited = c.in-Ok-complete_for.ensures.awaited c.in-Ok-complete_for.after refl;
       later = omega (arith, i.later, c.complete_for.ensures.later);
       size = c.complete_for.ensures.size ∙ i.size;
+      reads = omega (arith, i.reads, c.complete_for.ensures.reads);
+      writes = omega (arith, i.writes, c.complete_for.ensures.writes);
+      silent = silent_then c.args.self.now.lists.sched c.loop-waits.self.lists.sched c.complete_for.new.self.lists.sched i.silent (c.in-Ok-complete_for.ensures.silent c.in-Ok-complete_for.after refl);
       within = λ n w. (c.in-Ok-complete_for.ensures.quiet c.in-Ok-complete_for.after (Some c.args.deed.now) refl).told.within n (i.within n w);
       marks = marks_then c.args.self.now c.loop-waits.self c.complete_for.new.self i.marks c.complete_for.ensures.marks;
     }
+
+pub returns-in-Ok-clause-took : goal.returns-in-Ok-clause-took
+returns-in-Ok-clause-took g c answer is =
+    let after = (g.S.System.means.tree c.ask.new.self.system).forks in
+    deed_behind (g.S.System.means.tree c.args.self.now.system).forks after c.args.self.now.lists.sched c.loop-waits.self.lists.sched c.ask.new.self.lists.sched c.loop-waits.invariant.silent
+    (subst (λ (t : PlainTree). AllTold (moved (moves t.forks after) c.loop-waits.self.lists.sched) c.ask.new.self.lists.sched) c.loop-waits.invariant.quiet.told.tree c.in-Ok.ensures.lists)
+
+pub returns-then-left-eq0-clause-silent : goal.returns-then-left-eq0-clause-silent
+returns-then-left-eq0-clause-silent g c is = subst (λ (l : ForkLists). MovesSilently c.args.self.now.lists.sched l.sched) (sym c.release.ensures.lists) c.loop-waits.invariant.silent
+
+pub returns-then-left-eq0-clause-kept : goal.returns-then-left-eq0-clause-kept
+returns-then-left-eq0-clause-kept g c is = told_then g.S.System.means c.args.self.now.system c.loop-waits.self.system c.release.new.self.system c.loop-waits.invariant.quiet.told c.release.ensures.told

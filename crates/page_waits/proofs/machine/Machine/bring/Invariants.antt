@@ -2,6 +2,7 @@ use Rattle.std.proofs.Common.{◌≡◌, ℕ, ◌+◌, ◌-◌, ◌≤◌, cond,
 use Rattle.std.specs.Prelude.{None, Some}
 use Rattle.page_waits.specs.Acts.{Quiet}
 use Rattle.page_waits.specs.Machines.{KeepsMarks}
+use Rattle.page_waits.specs.Told.{MovesSilently}
 use Rattle.page_waits.specs.Waits.{AreAwaited, waits_with, the_lists}
 use Rattle.page_waits.proofs.machine.Machine.bring.Given as goal
 
@@ -12,7 +13,10 @@ invariant-loop-waits g l = record {
   awaited : AreAwaited g.S.System.means (waits_with l.waits (the_lists.waiting l.self.lists)) l.self.system;
   later : g.D.Drum.fault_count l.fn.drum ≤ g.D.Drum.fault_count l.drum;
   size : g.D.Drum.size l.drum ≡ g.D.Drum.size l.fn.drum;
+  reads : g.D.Drum.read_count l.fn.drum ≤ g.D.Drum.read_count l.drum;
+  writes : g.D.Drum.write_count l.fn.drum ≤ g.D.Drum.write_count l.drum;
   within : (n : ℕ) → g.S.System.means.within l.fn.self.system n → g.S.System.means.within l.self.system n;
+  silent : MovesSilently l.fn.self.lists.sched l.self.lists.sched;
   marks : KeepsMarks l.fn.self l.self;
 }
 

@@ -31,7 +31,6 @@ loop-head-preserved g c =
     record {
       still = still_then g.S.System.means the_lists None None None None old.system mid.system new.system old.lists mid.lists new.lists i.still still;
       mark = c.plan.ensures.mark ∙ i.mark;
-      count = c.plan.ensures.count none ∙ i.count;
       silent = silent_then old.lists.sched mid.lists.sched new.lists.sched i.silent (c.plan.ensures.silent none);
       seated = c.plan.ensures.seated none ∙ i.seated;
       within = λ n w. still.told.within n (i.within n w);

@@ -1,7 +1,7 @@
 use Rattle.std.proofs.Common.{◌≡◌, ℕ, length}
 use Rattle.std.specs.Prelude.{None}
 use Rattle.page_waits.specs.Acts.{Still}
-use Rattle.page_waits.specs.Machines.{IsBare, auto, done, limit}
+use Rattle.page_waits.specs.Machines.{IsBare, auto, limit}
 use Rattle.page_waits.specs.Told.{MovesSilently}
 use Rattle.page_waits.specs.Waits.{the_lists}
 use Rattle.page_waits.proofs.machine.Machine.first_units.Given as goal
@@ -10,7 +10,6 @@ abbrev pub invariant-loop-head : goal.invariant-loop-head
 invariant-loop-head g l = record {
   still : Still g.S.System.means the_lists None None None l.fn.self.system l.self.system l.fn.self.lists l.self.lists;
   mark : auto l.self ≡ auto l.fn.self;
-  count : done l.self ≡ done l.fn.self;
   silent : MovesSilently l.fn.self.lists.sched l.self.lists.sched;
   seated : the_lists.member l.self.lists ≡ the_lists.member l.fn.self.lists;
   within : (n : ℕ) → g.S.System.means.within l.fn.self.system n → g.S.System.means.within l.self.system n;

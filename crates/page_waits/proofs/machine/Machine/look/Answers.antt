@@ -6,7 +6,8 @@ use Rattle.plain_model.specs.Trees.{PlainTree}
 use Rattle.page_waits.specs.Acts.{IdledOver, Quiet}
 use Rattle.page_waits.specs.Holders.{AreReleased}
 use Rattle.page_waits.specs.Idling.{Counts, Moved}
-use Rattle.page_waits.specs.Told.{TookRow}
+use Rattle.fork_lists.specs.declared.lists.ForkLists.{ForkLists}
+use Rattle.page_waits.specs.Told.{MovesSilently, TookRow}
 use Rattle.page_waits.specs.Waits.{the_lists}
 use Rattle.page_waits.proofs.Idle.{nobody_runs}
 use Rattle.page_waits.proofs.Marks.{marks_then}
@@ -30,7 +31,7 @@ returns-then-not-self-clause-idled g c count done =
     let none = c.in_default.is in
     let after = c.first_units.new.self in
     idle_spent g.S.System.means the_lists g.D.Drum.held c.args.self.now.system after.system c.args.self.now.lists after.lists c.args.drum.now c.loop-u.drum
-    (nobody_runs g.S.System.means after.system after.lists c.sound.ensures after.standing (c.first_units.ensures.nobody none)) (g.met.S.System.housed after.system) (λ d fits. g.met.S.System.forked after.system d fits)
+    (nobody_runs g.S.System.means after.system after.lists c.sound.ensures after.standing (c.first_units.ensures.nobody none)) (g.met.S.System.housed after.system) (λ d fits. ap (λ (t : PlainTree). t.forks) (g.met.S.System.forked after.system d fits))
     c.args.self.now.auto count c.loop-u.left
     (elim c.then-not-self.branch [
       | then-not-self-via-then-not-self w ↦ ap (λ b. not b || (c.loop-u.left == 0)) (sym mark ∙ w.if-not-self.true)
@@ -50,9 +51,18 @@ returns-in-Nothing-clause-idled g c count done =
     subst (λ s. IdledOver g.S.System.means the_lists g.D.Drum.held c.args.self.now.auto count c.args.self.now.system s c.args.drum.now c.complete.new.drum) (sym same)
     (subst (IdledOver g.S.System.means the_lists g.D.Drum.held c.args.self.now.auto count c.args.self.now.system before.system c.args.drum.now) (sym drum)
     (idle_quiet g.S.System.means the_lists g.D.Drum.held c.args.self.now.system before.system c.args.self.now.lists before.lists c.args.drum.now c.loop-u.drum
-    (nobody_runs g.S.System.means before.system before.lists c.sound.ensures before.standing (c.first_units.ensures.nobody none)) (g.met.S.System.housed before.system) (λ d fits. g.met.S.System.forked before.system d fits)
+    (nobody_runs g.S.System.means before.system before.lists c.sound.ensures before.standing (c.first_units.ensures.nobody none)) (g.met.S.System.housed before.system) (λ d fits. ap (λ (t : PlainTree). t.forks) (g.met.S.System.forked before.system d fits))
     c.args.self.now.auto count (4294967296 - c.loop-u.left) (c.in-Nothing.ensures.nothing refl)
     (quiet_still g.S.System.means the_lists g.D.Drum.held None None None None (4294967296 - c.loop-u.left) c.args.self.now.system c.loop-u.self.system before.system c.args.self.now.lists c.loop-u.self.lists before.lists c.args.drum.now c.loop-u.drum c.loop-u.invariant.quiet (c.first_units.ensures.still none))))
+
+pub returns-then-not-self-clause-silent : goal.returns-then-not-self-clause-silent
+returns-then-not-self-clause-silent g c is =
+    silent_then c.args.self.now.lists.sched c.loop-u.self.lists.sched c.first_units.new.self.lists.sched c.loop-u.invariant.silent (c.first_units.ensures.silent c.in_default.is)
+
+pub returns-in-Nothing-clause-silent : goal.returns-in-Nothing-clause-silent
+returns-in-Nothing-clause-silent g c is =
+    subst (λ (l : ForkLists). MovesSilently c.args.self.now.lists.sched l.sched) (sym (c.in-Nothing.ensures.lists refl))
+    (silent_then c.args.self.now.lists.sched c.loop-u.self.lists.sched c.first_units.new.self.lists.sched c.loop-u.invariant.silent (c.first_units.ensures.silent c.in_default.is))
 
 pub returns-in-Some-clause-row : goal.returns-in-Some-clause-row
 returns-in-Some-clause-row g c =
@@ -90,13 +100,15 @@ loop-u-preserved g c =
           (moved_then counts (4294967296 - c.loop-u.left) 1 c.args.drum.now c.loop-u.drum c.complete.new.drum i.moved (c.in-Done.ensures.moved need refl) c.complete.ensures.reads c.complete.ensures.writes);
       later = omega (arith, i.later, c.complete.ensures.later);
       size = c.complete.ensures.size ∙ i.size;
+      reads = omega (arith, i.reads, c.complete.ensures.reads);
+      writes = omega (arith, i.writes, c.complete.ensures.writes);
       off = λ off. let mark : planned.auto ≡ old.auto = c.first_units.ensures.mark ∙ i.marks.auto in absurd (on (sym c.if-not-self.false) (mark ∙ off));
       silent =
           silent_then old.lists.sched planned.lists.sched new.lists.sched (silent_then old.lists.sched mid.lists.sched planned.lists.sched i.silent (c.first_units.ensures.silent none))
           (silent_arrival planned.lists.sched new.lists.sched need (c.in-Done.ensures.told need refl));
       seated = c.complete.ensures.seated ∙ c.first_units.ensures.seated none ∙ i.seated;
       within = λ n w. quiet.told.within n (still.told.within n (i.within n w));
-      marks = marks_then old mid new i.marks (marks_then mid planned new (record { limit = c.first_units.ensures.limit; done = c.first_units.ensures.count none; auto = c.first_units.ensures.mark }) c.complete.ensures.marks);
+      marks = marks_then old mid new i.marks (marks_then mid planned new (record { limit = c.first_units.ensures.limit; auto = c.first_units.ensures.mark }) c.complete.ensures.marks);
       bare = c.complete.ensures.bare c.first_units.ensures.bare;
     }
   where

@@ -14,6 +14,8 @@ invariant-loop-u g l = record {
   moved : Moved (record { reads = g.D.Drum.read_count; writes = g.D.Drum.write_count }) (4294967296 - l.left) l.fn.drum l.drum;
   later : g.D.Drum.fault_count l.fn.drum ≤ g.D.Drum.fault_count l.drum;
   size : g.D.Drum.size l.drum ≡ g.D.Drum.size l.fn.drum;
+  reads : g.D.Drum.read_count l.fn.drum ≤ g.D.Drum.read_count l.drum;
+  writes : g.D.Drum.write_count l.fn.drum ≤ g.D.Drum.write_count l.drum;
   off : auto l.fn.self ≡ false → l.drum ≡ l.fn.drum;
   silent : MovesSilently l.fn.self.lists.sched l.self.lists.sched;
   seated : the_lists.member l.self.lists ≡ the_lists.member l.fn.self.lists;

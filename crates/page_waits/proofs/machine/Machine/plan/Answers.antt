@@ -17,6 +17,7 @@ use Rattle.page_waits.proofs.Holding.{all_lost, released_of}
 use Rattle.page_waits.proofs.Silence.{silent_nil, silent_wait}
 use Rattle.page_waits.proofs.Needing.{few_free}
 use Rattle.page_waits.proofs.Quieting.{still_begun}
+use Rattle.page_waits.specs.declared.answer.Showing.TheVariants as showing
 use Rattle.page_waits.proofs.machine.Machine.plan.Goals as goal
 
 pub finish-ended-requires-clause-awaited : goal.finish-ended-requires-clause-awaited
@@ -43,12 +44,14 @@ returns-in-Ok-clause-did g c =
     let did = c.in-Ok.ensures.did in
     let state = c.finish-ended.ensures.state in
     record {
+      named = did.named;
+      gives = state.gives (showing.Reply c.in-Ok.progress.reply) did.gives;
       limit = state.told.limit ∙ did.limit;
       within = λ n w. state.told.within (n + c.in-Ok.progress.count) (did.within n w);
       each = λ d fits.
           let y = did.each d fits in
           let z = state.each d y.0 in
-          (z.fits, y.1, z.plain ∙ y.2, ap (λ p. g.S.System.means.items p c.in-Ok.progress.reply) z.plain ∙ y.3);
+          (z.fits, y.1, z.plain ∙ y.2, ap (λ p. g.S.System.means.items p (showing.Reply c.in-Ok.progress.reply)) z.plain ∙ y.3);
     }
 
 pub returns-in-Ok-clause-bare : goal.returns-in-Ok-clause-bare

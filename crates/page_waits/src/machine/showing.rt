@@ -1,0 +1,44 @@
+// What a machine shows, and what is told of it without a drum.
+ghost use Rattle.std.specs.Prelude.{◌≡◌, ◌≤◌, [], OnErr, OnOk, is_some};
+ghost use Rattle.std.specs.FinMap as map;
+ghost use Rattle.fork_tree.specs.Trees.{IsTree};
+ghost use Rattle.machine_names.specs.Bounds.{IsTerminal};
+ghost use Rattle.outside.specs.Faults.{Rose};
+ghost use Rattle.page_contracts.specs.DrumWords.{DrumWords};
+ghost use Rattle.script_texts.specs.Taker.{GoesOn, IsCut, StaysOnward};
+
+use crate::System;
+use crate::answer::Showing;
+use crate::machine::Machine;
+use machine_names::Tty;
+use outside::Failed;
+use script_texts::Taker;
+
+impl<S: System> Machine<S> {
+    /// Gives what was shown to a taker, item by item. Fails only where its count of faults rises.
+    pub fn give<T: Taker>(&self, what: &Showing, out: &mut T) -> Result<(), Failed>
+        requires gives { S.means.gives self.now.system what.now }
+        ensures later { T.fault_count out.old ≤ T.fault_count out.new }
+        ensures cause { OnErr result (Rose (T.fault_count out.old) (T.fault_count out.new)) }
+        ensures onward { StaysOnward T.onward out.old out.new }
+        ensures ok { OnOk result ((d : DrumWords) → S.means.fits self.now.system d → GoesOn T.stands out.old out.new (S.means.items (S.means.plain self.now.system d) what.now) []) }
+        ensures err { OnErr result ((d : DrumWords) → S.means.fits self.now.system d → IsCut T.stands T.cut out.old out.new (S.means.items (S.means.plain self.now.system d) what.now) []) }
+    {
+        self.system.give(what, out)
+    }
+
+    /// Whether a terminal has a job.
+    pub fn has_job(&self, t: Tty) -> bool
+        requires terminal { IsTerminal t }
+        ensures { (d : DrumWords) → S.means.fits self.now.system d → result ≡ is_some (map.get (S.means.plain self.now.system d).jobs t.0) }
+    {
+        self.system.has_job(t)
+    }
+
+    /// The forks of each job are a tree. Does nothing when it runs.
+    pub fn trees(&self)
+        ensures { IsTree (S.means.tree self.now.system) }
+    {
+        self.system.forks();
+    }
+}
