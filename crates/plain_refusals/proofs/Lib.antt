@@ -11,3 +11,4 @@ pub mod AllAnswers
 pub mod References
 pub mod OneByte
 pub mod ByteSteps
+pub mod OnePage

@@ -1,14 +1,16 @@
 -- How much one unit may do.
-use Rattle.std.specs.Prelude.{◌≡◌, ◌⊎◌, ℕ, ◌+◌, List, [], ◌∷◌, length, nat_le, if◌then◌else◌, Some}
+use Rattle.std.specs.Prelude.{◌≡◌, ◌≢◌, ◌⊎◌, ℕ, ◌+◌, List, [], ◌∷◌, length, nat_le, if◌then◌else◌, Some}
 use Rattle.std.specs.declared.cmp.Ordering.{Ordering}
 use Rattle.std.specs.FinMap as map
 use Rattle.machine_names.specs.declared.names.ForkName.{ForkName}
 use Rattle.machine_names.specs.declared.names.Kind.TheVariants.{Write}
-use Rattle.plain_pages.specs.PlainPages.{PlainPages}
+use Rattle.plain_pages.specs.PlainPages.{NamedPages, PlainPages}
 use Rattle.plain_units.specs.declared.unit.TheConstants.{MOST_REFERENCES}
 use Rattle.plain_units.specs.Steps.{Asked, Progress, Steps, asked_at, goes, keeps, plainly, referred, refers, stops, widened, widens, word_taken}
 use Rattle.machine_names.specs.declared.names.Tty.{Tty}
-use Rattle.machine_names.specs.Orders.{name_cmp}
+use Rattle.machine_names.specs.declared.names.Slot.{Slot}
+use Rattle.machine_names.specs.Orders.{FilePage, name_cmp}
+use Rattle.plain_pages.specs.Maps.{entry_at}
 use Rattle.plain_files.specs.OpenFiles.{OpenFile}
 use Rattle.plain_model.specs.declared.call.TheConstants.{BIN, BOUT, PBIN, PSOUT, SIN, SOUT}
 use Rattle.plain_model.specs.ByteCalls.{behind_first, input_at}
@@ -40,3 +42,10 @@ byte_numbers = BIN ∷ BOUT ∷ PBIN ∷ SIN ∷ SOUT ∷ PSOUT ∷ []
 pub record TakesOneByte (s : PlainState) (r : Turned name_cmp) : Type 0 where
   pub positions : (t : Tty) (n : ℕ) (j : OpenFile) → map.get (held_at s.jobs t) n ≡ Some j → (k : OpenFile) × (map.get (held_at r.parts.jobs t) n ≡ Some k) × ((k.at ≡ j.at) ⊎ (k.at ≡ j.at + 1))
   pub input : (t : Tty) → (input_at r.parts.jobs t ≡ input_at s.jobs t) ⊎ (input_at r.parts.jobs t ≡ behind_first (input_at s.jobs t))
+
+-- pages are others by one page at most: each entry of a map but one is as it was, and each page of a file but one is the page that it was
+pub record GoesOverOnePage (old new : NamedPages) : Type 0 where
+  pub slot : Slot
+  pub file : FilePage (List ℕ)
+  pub entries : (at : Slot) → at ≢ slot → entry_at new.maps at ≡ entry_at old.maps at
+  pub files : (at : FilePage (List ℕ)) → at ≢ file → map.get new.files at ≡ map.get old.files at

@@ -18,6 +18,7 @@ ghost use Rattle.plain_units.specs.declared.unit.TheConstants.{MOST_REFERENCES};
 ghost use Rattle.plain_units.specs.Instructions.{instruction};
 ghost use Rattle.plain_units.specs.Steps.{Ending, Progress, Steps, begun, done};
 ghost use Rattle.plain_units.specs.Blocks.{steps_on};
+ghost use Rattle.plain_model.specs.declared.call.TheConstants.{PMAP};
 ghost use Rattle.plain_model.specs.declared.fork.Fork.{Fork as AFork};
 ghost use Rattle.plain_model.specs.Calls.{with_error, with_wait};
 ghost use Rattle.plain_model.specs.Events.{outer};
@@ -28,7 +29,7 @@ ghost use Rattle.plain_laws.specs.CommandLaws.{IsCommand, Tells};
 ghost use Rattle.plain_laws.specs.JfnLaws.{Lives, turn_of};
 ghost use Rattle.plain_laws.specs.TypeLaws.{HasJob};
 ghost use Rattle.plain_laws.specs.Whole.{IsWhole};
-ghost use Rattle.plain_refusals.specs.Budgets.{TakesOneByte, asked_for, byte_numbers};
+ghost use Rattle.plain_refusals.specs.Budgets.{GoesOverOnePage, TakesOneByte, asked_for, byte_numbers};
 ghost use Rattle.plain_refusals.specs.CallAnswers.{LeavesAllBut, LeavesOthers, MakesCall, answer_of, fails, refuses, trapped, traps, waits, with_failure};
 ghost use Rattle.plain_refusals.specs.CallTable.{CallRow, allows, call_rows, is_call};
 ghost use Rattle.plain_refusals.specs.CommandRefusals.{IsLost, IsRefused as IsRefusedWith};
@@ -81,4 +82,10 @@ pub fn units_make_few_references()
 /// stood or at the next byte, and of the characters that are stored for a job the oldest may be gone.
 pub fn units_of_calls_take_one_byte()
     ensures { (s : PlainState) (f : AFork) → Lives s f → All (λ number. TakesOneByte s (turn_of s f number)) byte_numbers }
+{}
+
+/// A unit of PMAP goes over one page at most, however many it is to go over: no entry of a map but one is another, and no page of a file
+/// but one.
+pub fn units_of_pmap_go_over_one_page()
+    ensures { (s : PlainState) (f : AFork) → GoesOverOnePage s.pages (turn_of s f PMAP).parts.pages }
 {}
