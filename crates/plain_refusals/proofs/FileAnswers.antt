@@ -92,17 +92,17 @@ DELF_ROW = two call.DELF (call.NO_JFN ∷ call.FILE_IN_USE ∷ [])
 
 module _ (a : JfnAsked) where
   -- what each does with a JFN that is held
-  abbrev opens : ℕ → OpenFile → End FileChange
+  abbrev pub opens : ℕ → OpenFile → End FileChange
   opens n j =
       let w = in_ac a.regs 2 in let mode = mode_in w in
       if is_some j.mode then Failed call.JFN_OPEN
       else (if nat_lt LARGEST_BYTE (size_in w) then Failed call.BAD_SIZE
       else (if mode.r || mode.w then skipping (Open a.who.tty n mode (size_in w)) a.regs else Failed call.NOT_OPEN))
 
-  abbrev releases : ℕ → OpenFile → End FileChange
+  abbrev pub releases : ℕ → OpenFile → End FileChange
   releases n j = if is_some j.mode then Failed call.JFN_OPEN else skipping (Release a.who.tty n) a.regs
 
-  abbrev deletes : ℕ → OpenFile → End FileChange
+  abbrev pub deletes : ℕ → OpenFile → End FileChange
   deletes n j = if nat_lt 1 (a.times j.file) then Failed call.FILE_IN_USE else skipping (Delete a.who.tty n) a.regs
 
   open_end : (n : ℕ) (mode : Mode) (size : ℕ) (is_open large some : Bool)

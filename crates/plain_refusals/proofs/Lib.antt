@@ -12,3 +12,4 @@ pub mod References
 pub mod OneByte
 pub mod ByteSteps
 pub mod OnePage
+pub mod Unnamed

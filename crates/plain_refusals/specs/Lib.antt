@@ -4,3 +4,4 @@ pub mod CommandRefusals
 pub mod CallAnswers
 pub mod CallTable
 pub mod Budgets
+pub mod NamedNone

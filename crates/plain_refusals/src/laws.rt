@@ -18,7 +18,7 @@ ghost use Rattle.plain_units.specs.declared.unit.TheConstants.{MOST_REFERENCES};
 ghost use Rattle.plain_units.specs.Instructions.{instruction};
 ghost use Rattle.plain_units.specs.Steps.{Ending, Progress, Steps, begun, done};
 ghost use Rattle.plain_units.specs.Blocks.{steps_on};
-ghost use Rattle.plain_model.specs.declared.call.TheConstants.{PMAP};
+ghost use Rattle.plain_model.specs.declared.call.TheConstants.{NO_HANDLE, NO_INFERIOR, NO_JFN, PMAP};
 ghost use Rattle.plain_model.specs.declared.fork.Fork.{Fork as AFork};
 ghost use Rattle.plain_model.specs.Calls.{with_error, with_wait};
 ghost use Rattle.plain_model.specs.Events.{outer};
@@ -34,6 +34,7 @@ ghost use Rattle.plain_refusals.specs.CallAnswers.{LeavesAllBut, LeavesOthers, M
 ghost use Rattle.plain_refusals.specs.CallTable.{CallRow, allows, call_rows, is_call};
 ghost use Rattle.plain_refusals.specs.CommandRefusals.{IsLost, IsRefused as IsRefusedWith};
 ghost use Rattle.plain_refusals.specs.EventRefusals.{ChangesNothing, IsGranted, IsRefused, tells_none};
+ghost use Rattle.plain_refusals.specs.NamedNone.{AllAnswer, NamesAnother, NamesNoFork, NamesNoInferior, NamesNoJfn, NamesNothing, inferior_numbers, jfn_numbers, own_numbers, transfer_numbers};
 
 use plain_model::TerminalMode;
 
@@ -70,6 +71,16 @@ pub fn refused_calls_leave_all_else()
 pub fn calls_are_answered_as_the_table_has_it()
     ensures calls { (s : PlainState) (f : AFork) → All (λ (row : CallRow). allows row (answer_of s f row.number) ≡ true) call_rows }
     ensures others { (s : PlainState) (f : AFork) (number : ℕ) → is_call number ≡ false → answer_of s f number ≡ traps ILLEGAL_INSTRUCTION }
+{}
+
+/// Who names no fork is refused for that by each call of a fork, who names one that is no inferior by each call of an inferior, and who
+/// names no JFN by each call of a JFN, by its own returns.
+pub fn who_names_none_is_refused()
+    ensures forks { (s : PlainState) (f : AFork) → NamesNoFork s f → AllAnswer s f inferior_numbers (refuses NO_HANDLE) × AllAnswer s f own_numbers (refuses NO_HANDLE) }
+    ensures inferiors { (s : PlainState) (f g : AFork) → NamesNoInferior s f g → AllAnswer s f inferior_numbers (refuses NO_INFERIOR) }
+    ensures others { (s : PlainState) (f g : AFork) → NamesAnother s f g → AllAnswer s f own_numbers (refuses NO_INFERIOR) }
+    ensures jfns { (s : PlainState) (f : AFork) → NamesNoJfn s f → AllAnswer s f jfn_numbers (fails NO_JFN) }
+    ensures transfers { (s : PlainState) (f : AFork) → NamesNothing s f → AllAnswer s f transfer_numbers (refuses NO_JFN) }
 {}
 
 /// A unit asks for at most 16 references, whatever its instruction is and however its words point to one another.
