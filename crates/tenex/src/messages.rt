@@ -36,6 +36,8 @@ fn help(status: Status) -> Option<&'static str> {
         Status::DrumFault => Some("tenex: the drum failed"),
         Status::Memory => Some("tenex: there is no memory for a machine of this size"),
         Status::LongScript => Some("tenex: the script has more than 16777216 bytes"),
+        Status::Illegal => Some("tenex: the record has a unit of a fork that can't run there"),
+        Status::Image => Some("tenex: docs/MACHINE.md has the parts of an image"),
     }
 }
 

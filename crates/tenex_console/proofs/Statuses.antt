@@ -9,7 +9,7 @@ use Rattle.command_words.specs.declared.request.EventSource.{EventSource}
 use Rattle.command_words.specs.declared.request.EventSource.TheVariants.{Script as ReadScript, Generated}
 use Rattle.command_words.specs.declared.request.Request.{Request}
 use Rattle.texts.specs.declared.last.Status.{Status}
-use Rattle.texts.specs.declared.last.Status.TheVariants.{Done, Usage, Script, DrumFault, Memory, ReadFault, WriteFault, LongScript}
+use Rattle.texts.specs.declared.last.Status.TheVariants.{Done, Usage, Script, DrumFault, Memory, ReadFault, WriteFault, LongScript, Illegal, Image}
 use Rattle.tenex_console.specs.declared.asked.Unbegun.{Unbegun}
 use Rattle.tenex_console.specs.declared.asked.Unbegun.TheVariants.{Usage as WrongWords, Memory as NoMemory}
 use Rattle.tenex_console.specs.declared.driver.Driven.{Driven}
@@ -78,17 +78,6 @@ taker_only Unpaged is = absurd (cc is)
 steady : (before after : ℕ) → IsSteady before after → Rose before after → ⊥
 steady before after s r = absurd (omega (arith, s.0, s.1, r))
 
--- where no count rose, no fault is told
-pub faultless : (status : Status) (f : Faults) → IsCaused status f → AreSteady f → IsFaultless status
-faultless Done f caused all = tt
-faultless Usage f caused all = tt
-faultless Script f caused all = tt
-faultless DrumFault f caused all = steady f.drum f.drum_after all.drum (caused.drum refl)
-faultless Memory f caused all = tt
-faultless ReadFault f caused all = steady f.script f.script_after all.script (caused.read refl)
-faultless WriteFault f caused all = elim (caused.write refl) [ inl x ↦ steady f.out f.out_after all.out x | inr y ↦ steady f.rec f.rec_after all.rec y ]
-faultless LongScript f caused all = tt
-
 module _ {Z : Type 0} (words : List (String Z)) (pages : ℕ) where
   -- a status that tells of no fault, of right words and, where it is run, a right script
   pub complete_run : (left : Option (List ℕ)) (status : Status) → (status ≡ Usage → IsUsage words pages) → ((bytes : List ℕ) → ReadsScript words → left ≡ Some bytes → Judges status bytes)
@@ -111,6 +100,8 @@ module _ {Z : Type 0} (words : List (String Z)) (pages : ℕ) where
       by Memory u j n fine = inr refl
       by ReadFault u j n fine = absurd fine
       by WriteFault u j n fine = absurd fine
+      by Illegal u j n fine = absurd fine
+      by Image u j n fine = absurd fine
       by LongScript u j n fine = absurd (of_script ⊥ (λ bytes events reads told script. let long = j bytes reads told in script_not_long bytes events long.0 script long.1) (λ seed g. (n seed g).1 refl))
 
   module _ (told : Observed) where
@@ -124,6 +115,35 @@ module _ {Z : Type 0} (words : List (String Z)) (pages : ℕ) where
     tells_ran ReadFault ran = ran
     tells_ran WriteFault ran = inr ran
     tells_ran LongScript ran = ran
+    tells_ran Illegal ran = ran
+    tells_ran Image ran = ran
+
+    -- no status but those of a fault tells of one
+    pub faultless_but : (status : Status) → Tells words pages told status → (status ≡ DrumFault → ⊥) → (status ≡ ReadFault → ⊥) → IsFaultless status ⊎ (status ≡ WriteFault)
+    faultless_but Done tells drum read = inl tt
+    faultless_but Usage tells drum read = inl tt
+    faultless_but Script tells drum read = inl tt
+    faultless_but DrumFault tells drum read = absurd (drum refl)
+    faultless_but Memory tells drum read = inl tt
+    faultless_but ReadFault tells drum read = absurd (read refl)
+    faultless_but WriteFault tells drum read = inr refl
+    faultless_but LongScript tells drum read = inl tt
+    faultless_but Illegal tells drum read = absurd tells.2
+    faultless_but Image tells drum read = absurd tells.2
+
+    -- where no count rose, no fault is told
+    pub faultless : (status : Status) (f : Faults) → Tells words pages told status → IsCaused status f → AreSteady f → IsFaultless status
+    faultless status f tells caused all = elim (faultless_but status tells drum read) [ inl fine ↦ fine | inr fault ↦ absurd (written (caused.write fault)) ]
+      where
+        drum : status ≡ DrumFault → ⊥
+        drum is = steady f.drum f.drum_after all.drum (caused.drum is)
+
+        read : status ≡ ReadFault → ⊥
+        read is = steady f.script f.script_after all.script (caused.read is)
+
+        written : Rose f.out f.out_after ⊎ Rose f.rec f.rec_after → ⊥
+        written (inl x) = steady f.out f.out_after all.out x
+        written (inr y) = steady f.rec f.rec_after all.rec y
 
 -- a run that began is not early
 pub late : (request : Request) (told : Observed) (status : Status) → Ran request told status → IsEarly status → ⊥
@@ -135,6 +155,8 @@ late request told DrumFault ran early = early
 late request told ReadFault ran early = early
 late request told WriteFault ran early = early
 late request told LongScript ran early = early
+late request told Illegal ran early = early
+late request told Image ran early = early
 
 -- what a run came to is told of the run that was asked for
 pub ran_asked : (told : Observed) (request : Request) (events : EventSource) (status : Status) → events ≡ request.events → Ran (record { events = events; sizes = request.sizes }) told status → Ran request told status

@@ -6,7 +6,7 @@ use Rattle.command_words.specs.declared.request.EventSource.{EventSource}
 use Rattle.command_words.specs.declared.request.Request.{Request}
 use Rattle.command_words.specs.declared.sizes.Sizes.{Sizes}
 use Rattle.texts.specs.declared.last.Status.{Status}
-use Rattle.texts.specs.declared.last.Status.TheVariants.{Done, Usage, Script, DrumFault, Memory, ReadFault, WriteFault, LongScript}
+use Rattle.texts.specs.declared.last.Status.TheVariants.{Done, Usage, Script, DrumFault, Memory, ReadFault, WriteFault, LongScript, Illegal, Image}
 use Rattle.texts.specs.Ends.{closing_line}
 use Rattle.tenex_console.specs.declared.driver.Driven.{Driven}
 use Rattle.tenex_console.specs.declared.driver.Driven.TheVariants.{Done as WholeScript, Bad, Long, ReadFault as Unread, DrumFault as Unpaged, TakerFault}
@@ -14,7 +14,7 @@ use Rattle.tenex_console.specs.Command.{IsAsked}
 use Rattle.tenex_console.specs.Headline.{Headline, Part, Fronts, Only, OnlyFront}
 use Rattle.tenex_console.specs.Observed.{Observed}
 
--- what was told of a run that was asked for like this, began and has this status
+-- what was told of a run that was asked for like this, began and has this status; those of other commands never come
 abbrev pub Ran : Request → Observed → Status → Type 0
 Ran request told Done = Headline request.events request.sizes.drum told
 Ran request told Usage = ⊥
@@ -24,6 +24,8 @@ Ran request told Memory = ⊥
 Ran request told ReadFault = Part Unread (closing_line ReadFault 0) request told
 Ran request told WriteFault = Fronts request told
 Ran request told LongScript = Part Long (closing_line LongScript 0) request told
+Ran request told Illegal = ⊥
+Ran request told Image = ⊥
 
 -- what was told of a run of these events with this status, of any sizes with so many pages of the drum
 abbrev pub RanWith : EventSource → ℕ → Observed → Status → Type 0
@@ -45,13 +47,17 @@ abbrev pub Judges : Status → List ℕ → Type 0
 Judges Done script = (events : List Event) × IsScript script events
 Judges Script script = (n : ℕ) × (events : List Event) × StopsAt n script events
 Judges LongScript script = (events : List Event) × IsTooLong script events
+Judges Illegal script = ⊥
+Judges Image script = ⊥
 Judges status script = Unit {0}
 
--- a status that tells of no fault
+-- a status of a run that tells of no fault
 abbrev pub IsFaultless : Status → Type 0
 IsFaultless DrumFault = ⊥
 IsFaultless ReadFault = ⊥
 IsFaultless WriteFault = ⊥
+IsFaultless Illegal = ⊥
+IsFaultless Image = ⊥
 IsFaultless status = Unit {0}
 
 -- wrong words are Usage, unless there was no memory to read them, or the line of the status was not written

@@ -10,6 +10,7 @@ use crate::sinks::{have, only, sink};
 use machine_names::{DirName, ForkName, Tty, TypedText};
 use outside::{Failed, MemSink, Sink};
 use script_texts::{Event, ForkLine, ForkStatus, Item, Refusal, Step, Taker, WaitOn};
+use std::alloc::Global;
 use std::process::Abort;
 use texts::{Last, Status, Writer};
 use word36::Word;
@@ -185,6 +186,33 @@ fn writes_each_item(rt: HostRuntime) {
         b"T3 \\177\\134\n?BUSY 15\nT2  \nT3 ~\nF 0 1 0 FORCED 15 PC 000100\nF 0 1 7 SLEEP FROZEN PC 000000\nX 0 1 000003 510040000104\nW 000 510040000104\nU 0 1 000777\n?LINE 12\n",
         b"",
     );
+}
+
+// A command that ends with this status and this number has this line, and this exit status.
+fn closes(rt: &impl Abort, alloc: Global, status: Status, n: u64, line: &[u8], number: u8) {
+    let mut out = sink(rt, alloc, 64);
+    let mut rec = sink(rt, alloc, 0);
+    same(
+        rt,
+        Writer::new(&mut out, &mut rec).finish(Last::Stopped(status, n)),
+        Ok(()),
+    );
+    have(rt, out, rec, line, b"");
+    same(rt, status.number(), number);
+}
+
+#[test]
+fn closes_with_the_line_of_a_status(rt: HostRuntime) {
+    closes(&rt, rt.alloc(), Status::Illegal, 2, b"?ILLEGAL 2\n", 8);
+    closes(
+        &rt,
+        rt.alloc(),
+        Status::Illegal,
+        u64::MAX,
+        b"?ILLEGAL 18446744073709551615\n",
+        8,
+    );
+    closes(&rt, rt.alloc(), Status::Image, 0, b"?IMAGE 0\n", 11);
 }
 
 // Writes what is typed behind two pieces of a run.

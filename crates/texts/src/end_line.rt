@@ -1,6 +1,6 @@
 // The end of the transcript.
 ghost use Rattle.std.specs.Prelude.{◌≡◌, ◌≤◌, ◌+◌, ◌++◌, length, decimal};
-ghost use Rattle.script_texts.specs.Texts.{field};
+ghost use Rattle.script_texts.specs.Texts.{ended, field};
 ghost use Rattle.texts.specs.Ends.{closing_line, end_line};
 ghost use Rattle.texts.specs.OpenLine.{line_end};
 ghost use Rattle.texts.specs.Tally.{tally_line};
@@ -11,6 +11,9 @@ use script_lang::digits::DECIMAL_DIGITS;
 
 /// How many bytes the line of the counts has at most: a letter, four counts behind their spaces, and the line feed.
 const SUMMARY_ROOM: usize = 86;
+
+/// How many bytes the words of a closing line have at most before a number: `?ILLEGAL `.
+const WORDS_ROOM: usize = 9;
 
 /// The last line of the transcript, behind the line before, which is open where it is a terminal's of this
 /// number.
@@ -49,7 +52,7 @@ fn push_count(line: &mut Line, n: u64)
     line.push_decimal(n);
 }
 
-// Puts the line that tells how a run stopped behind a line.
+// Puts the line that tells how a command stopped behind a line.
 fn push_closing(line: &mut Line, status: Status, n: u64)
     requires { length line.old ≤ 1 }
     ensures { line.new ≡ line.old ++ closing_line status n }
@@ -57,14 +60,23 @@ fn push_closing(line: &mut Line, status: Status, n: u64)
     match status {
         Status::Done | Status::WriteFault => {}
         Status::Usage => line.push(b"?USAGE\n"),
-        Status::Script => {
-            line.push(b"?LINE ");
-            line.push_decimal(n);
-            line.push(b"\n");
-        }
+        Status::Script => push_numbered(line, b"?LINE ", n),
         Status::DrumFault => line.push(b"?DRUM\n"),
         Status::Memory => line.push(b"?MEMORY\n"),
         Status::ReadFault => line.push(b"?READ\n"),
         Status::LongScript => line.push(b"?LONG SCRIPT\n"),
+        Status::Illegal => push_numbered(line, b"?ILLEGAL ", n),
+        Status::Image => push_numbered(line, b"?IMAGE ", n),
     }
+}
+
+// Puts a line of words and a number behind a line.
+fn push_numbered(line: &mut Line, words: &[u8], n: u64)
+    requires behind { length line.old ≤ 1 }
+    requires words { length words.now ≤ WORDS_ROOM }
+    ensures { line.new ≡ line.old ++ ended (words.now ++ decimal n) }
+{
+    line.push(words);
+    line.push_decimal(n);
+    line.push(b"\n");
 }

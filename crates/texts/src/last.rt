@@ -1,8 +1,8 @@
-// How a run ends.
+// How a command ends.
 ghost use Rattle.std.specs.Prelude.{◌≡◌};
 ghost use Rattle.texts.specs.Ends.{status_number};
 
-/// How a run ended, in the order of the exit statuses, 0 to 7.
+/// How a command ended, in the order of the exit statuses: 0 to 8, and 11. A run is never `Illegal` or `Image`.
 #[derive(Clone, Copy, PartialEq, Eq)]
 pub enum Status {
     /// The script was run to its end, or the generated one was.
@@ -19,12 +19,16 @@ pub enum Status {
     ReadFault,
     /// A write of a text failed.
     WriteFault,
-    /// The script is too long.
+    /// The script is too long, or another text that a command reads.
     LongScript,
+    /// A unit of the record is one of a fork that can't run there.
+    Illegal,
+    /// What was read is no image of files.
+    Image,
 }
 
 impl Status {
-    /// The exit status of the process, 0 to 7.
+    /// The exit status of the process: 0 to 8, or 11.
     pub fn number(self) -> u8
         ensures { result ≡ status_number self }
     {
@@ -37,6 +41,8 @@ impl Status {
             Status::ReadFault => 5,
             Status::WriteFault => 6,
             Status::LongScript => 7,
+            Status::Illegal => 8,
+            Status::Image => 11,
         }
     }
 }
@@ -48,6 +54,7 @@ pub enum Last {
     Done { reads: u64, writes: u64 },
     /// The same, and behind the transcript how many entries the run has, and how many characters it showed.
     Summary { reads: u64, writes: u64 },
-    /// How the run stopped, and at which line of the script, counted from 1. Only `Script` shows the line.
+    /// How it stopped, and the number that the line of `Script`, `Illegal` and `Image` shows: at which line of what was
+    /// read or at which entry of the record, each counted from 1, or behind how many parts of an image.
     Stopped(Status, u64),
 }

@@ -53,7 +53,7 @@ returns-in-Ok-clause-unread g c early =
     absurd (late asked.0 _ c.run.result (ran_asked _ asked.0 _ c.run.result asked.2 (c.run.ensures.ran asked.0.sizes (sym asked.3.room_is))) early)
 
 pub returns-in-Ok-clause-complete : goal.returns-in-Ok-clause-complete
-returns-in-Ok-clause-complete g c steady = faultless c.run.result _ c.run.ensures.caused steady
+returns-in-Ok-clause-complete g c steady = faultless c.args.words.now (g.D.Drum.size c.args.drum.now) _ c.run.result _ (returns-in-Ok-clause-tells g c) c.run.ensures.caused steady
 
 pub returns-in-Ok-clause-complete_run : goal.returns-in-Ok-clause-complete_run
 returns-in-Ok-clause-complete_run g c right fine =
@@ -100,7 +100,7 @@ returns-in-Err-clause-drum_cause g c is = absurd (stopped (λ s. s ≡ DrumFault
 
 pub returns-in-Err-clause-complete : goal.returns-in-Err-clause-complete
 returns-in-Err-clause-complete g c steady =
-    faultless c.stop.result _
+    faultless c.args.words.now (g.D.Drum.size c.args.drum.now) _ c.stop.result _ (returns-in-Err-clause-tells g c)
     (record {
       read = returns-in-Err-clause-read_cause g c;
       write = c.stop.ensures.write_cause;
