@@ -75,6 +75,10 @@ module _ {X : Type 0} (a b : Option (List ℕ)) (after whole : List X → List �
   pub wrote_cut : (xs : List X) → Wrote a b after whole → WrotePartly a b (whole xs)
   wrote_cut xs wrote = record { each = λ told h. let w = wrote.each told h in (w.0, after xs, w.1, w.2 xs) }
 
+-- a front of a text
+pub fronted : (a c : Option (List ℕ)) (whole : List ℕ) → GrowsPartly a c whole → WrotePartly a c whole
+fronted a c whole partly = record { each = λ told h. let p = partly told h in (p.0, p.1, p.2, sym p.3) }
+
 pub cut_here : (a b : Option (List ℕ)) (whole last : List ℕ) → WrotePartly a b whole → WrotePartly a b (whole ++ last)
 cut_here a b whole last cut = record { each = λ told h. let c = cut.each told h in (c.0, c.1 ++ last, c.2, sym (append_assoc c.0 c.1 last) ∙ ap (λ l. l ++ last) c.3) }
 

@@ -3,6 +3,7 @@
 //! Stands on `script_texts` for both texts' definitions, on `outside` for sinks, on `script_lang` for canonical lines and digits.
 #![tactic(auto)]
 
+mod closing;
 mod end_line;
 mod entry;
 mod item_line;
@@ -14,6 +15,7 @@ mod tally;
 mod turns;
 mod writer;
 
+pub use closing::write_closing;
 pub use last::{Last, Status};
 pub use tally::Tally;
 pub use writer::Writer;
