@@ -3,3 +3,4 @@ pub mod Steps
 pub mod Found
 pub mod Whole
 pub mod Reading
+pub mod Records

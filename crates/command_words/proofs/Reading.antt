@@ -1,6 +1,6 @@
 -- What a parse tells of the words, both ways.
 use Rattle.std.proofs.Common.{◌≡◌, ◌∙◌, ◌≤◌, refl, sym, ap, ap₂, subst, arith, ℕ, Bool, true, false, List, [], ◌∷◌, ◌++◌, Option, Some, None, codes, append_assoc, map, String, string_bytes, length, slice_index}
-use Rattle.std.specs.Prelude.{MatchOption, slice_get, unwrap_or, flat_map, if◌then◌else◌}
+use Rattle.std.specs.Prelude.{◌&&◌, MatchOption, slice_get, unwrap_or, flat_map, if◌then◌else◌}
 use Rattle.std.specs.List.{list_all}
 use Rattle.std.specs.Str.{bytes_eq}
 use Rattle.std.proofs.Math.Bool.{or-true}
@@ -18,7 +18,7 @@ use Rattle.clap.specs.Kinds.{or_else}
 use Rattle.clap.specs.Faults.{check_fault, default_fault, defaults_fault, entered_fault, walk_fault}
 use Rattle.script_texts.specs.Script.{IsDecimal}
 use Rattle.command_words.specs.Words.{AreBy, AskOf, AsksFor, AsksForDrum, AsksForEvents, AsksForFrames, Given, Setting, Size, Text, a_seed, a_size, alone, apart, drum_size, frames_size, given, joined, listed, words_of}
-use Rattle.command_words.specs.Parser.{AsksForRun, found_values, is_other, kept_name, name_of, run_app, verb_named}
+use Rattle.command_words.specs.Parser.{AreRight, AsksForRun, IsFoundIn, found_values, is_other, kept_name, name_of, run_app, verb_named}
 use Rattle.command_words.specs.declared.request.EventSource.{EventSource}
 use Rattle.command_words.specs.declared.request.EventSource.TheVariants.{Script, Generated}
 use Rattle.command_words.specs.declared.request.Request.{Request}
@@ -86,7 +86,7 @@ starts most (c ∷ cs) n h = let digit = h.2 0 c (omega arith) in record {
   plain = let low : 48 ≤ c = digit.0 in omega arith;
 }
 
-single : (least most standard : ℕ) (values : List Text) (n : ℕ) → AsksFor least most standard values n → IsSingle values
+pub single : (least most standard : ℕ) (values : List Text) (n : ℕ) → AsksFor least most standard values n → IsSingle values
 single least most standard [] n h = tt
 single least most standard (v ∷ []) n h = starts 9 v n h.0
 single least most standard (v ∷ w ∷ vs) n h = absurd h
@@ -141,37 +141,34 @@ others (alone value ∷ more) before h =
     alone_other value more (no_option value (Fine-value before (alone value) more h))
     ∙ others more (before ++ alone value ∷ []) (subst Fine (sym (append_assoc before (alone value ∷ []) more)) h)
 
-verb_other : (verb : Verb) (rest : List Text) → list_all is_other (name_of verb ∷ rest) ≡ list_all is_other rest
-verb_other Run rest = refl
-verb_other Big rest = refl
-
--- the words that ask for a run: their first is that of a verb, none is `--`, nothing is wrong, and what is found
--- is what they give
+-- a first word and those of settings: nothing is wrong with them, and what is found is what they give
 pub record IsClean (settings : List Setting) (words : List Text) : Type 0 where
-  pub verb : Verb
-  pub rest : List Text
-  pub words_are : words ≡ name_of verb ∷ rest
-  pub others : list_all is_other words ≡ true
-  pub right : fault_of run_app words ≡ []
+  pub right : AreRight words
   pub values : (what : Given) → listed (first_of (kept_name what) (matches_of run_app words)) ≡ given what settings
 
-pub clean : (name : Text) (settings : List Setting) (words : List Text) (r : Request) → AreBy name settings words r → IsClean settings words
-clean name settings words r are =
-    let h = fine name settings words r are in
+pub clean_by : (name : Text) (settings : List Setting) (words : List Text) → is_other name ≡ true → Fine settings → words ≡ name ∷ flat_map words_of settings → IsClean settings words
+clean_by name settings words other h words_are =
     let all = complete settings [] None h in
-    let verb = verb_of name (given a_seed settings) r.events are.events in
-    let words_are = are.words_are ∙ ap (λ n. n ∷ flat_map words_of settings) verb.1 in
     subst (IsClean settings) (sym words_are) (record {
-      verb = verb.0;
-      rest = flat_map words_of settings;
-      words_are = refl;
-      others = verb_other verb.0 (flat_map words_of settings) ∙ others settings [] h;
-      right = right_walk (name_of verb.0) (flat_map words_of settings) all.0 all.1;
-      values = λ what. ap (λ found. listed (first_of (kept_name what) found)) (found_rows (name_of verb.0) (flat_map words_of settings) ∙ all.2) ∙ found_given what settings (Fine-Once settings h);
+      right = record {
+        others = ap₂ (λ a b. a && b) other (others settings [] h);
+        faultless = right_walk name (flat_map words_of settings) all.0 all.1;
+      };
+      values = λ what. ap (λ found. listed (first_of (kept_name what) found)) (found_rows name (flat_map words_of settings) ∙ all.2) ∙ found_given what settings (Fine-Once settings h);
     })
 
+verb_other : (verb : Verb) → is_other (name_of verb) ≡ true
+verb_other Run = refl
+verb_other Big = refl
+
+-- the words that ask for a run
+clean : (name : Text) (settings : List Setting) (words : List Text) (r : Request) → AreBy name settings words r → IsClean settings words
+clean name settings words r are =
+    let verb = verb_of name (given a_seed settings) r.events are.events in
+    clean_by name settings words (ap is_other verb.1 ∙ verb_other verb.0) (fine name settings words r are) are.words_are
+
 -- words without `--`, with which nothing is wrong, are their first one and those of settings
-pub read : (name : Text) (rest : List Text) → list_all is_other (name ∷ rest) ≡ true → fault_of run_app (name ∷ rest) ≡ []
+read : (name : Text) (rest : List Text) → list_all is_other (name ∷ rest) ≡ true → fault_of run_app (name ∷ rest) ≡ []
     → (settings : List Setting) × (rest ≡ flat_map words_of settings) × ((what : Given) → listed (first_of (kept_name what) (matches_of run_app (name ∷ rest))) ≡ given what settings)
 read name rest others right =
     let more = and_parts (is_other name) (list_all is_other rest) others in
@@ -185,9 +182,18 @@ read name rest others right =
     none_given : (what : Given) → length (given what []) ≤ 1
     none_given what = omega arith
 
+-- what is found in right words is what they give
+pub read_found : (name : Text) (rest : List Text) (found : Found) → IsFoundIn (name ∷ rest) found → (settings : List Setting) × (rest ≡ flat_map words_of settings) × ((what : Given) → found_values found what ≡ given what settings)
+read_found name rest found is =
+    let settings = read name rest is.right.others is.right.faultless in
+    (settings.0, settings.1, λ what. ap listed (first_value-rows found (kept_name what) ∙ ap (first_of (kept_name what)) is.rows) ∙ settings.2 what)
+
+pub clean_found : (settings : List Setting) (words : List Text) (found : Found) → IsClean settings words → rows_of found ≡ matches_of run_app words → (what : Given) → given what settings ≡ found_values found what
+clean_found settings words found clean is what = sym (ap listed (first_value-rows found (kept_name what) ∙ ap (first_of (kept_name what)) is) ∙ clean.values what)
+
 -- ---- the answers
 
-one_number : (least most standard : ℕ) (values : List Text) (n m : ℕ) → AsksFor least most standard values n → AsksFor least most standard values m → n ≡ m
+pub one_number : (least most standard : ℕ) (values : List Text) (n m : ℕ) → AsksFor least most standard values n → AsksFor least most standard values m → n ≡ m
 one_number least most standard [] n m h k = h ∙ sym k
 one_number least most standard (v ∷ []) n m h k = sym h.0.3 ∙ k.0.3
 one_number least most standard (v ∷ w ∷ vs) n m h k = absurd h
@@ -217,37 +223,33 @@ names_verb : (verb other : Verb) (values : List Text) (source : EventSource) →
 names_verb verb other values source h same = subst (λ n. AsksForEvents n values source) same h
 
 -- what is found of words that are right, where it asks for a run or for none
-asked : (verb : Verb) (rest : List Text) → list_all is_other (name_of verb ∷ rest) ≡ true → fault_of run_app (name_of verb ∷ rest) ≡ [] → (found : Found) → rows_of found ≡ matches_of run_app (name_of verb ∷ rest)
-    → (r : Request) → AsksForRun verb found r → AskOf (name_of verb ∷ rest) r
-asked verb rest others right found is r asks =
-    let settings = read (name_of verb) rest others right in
-    let same : (what : Given) → found_values found what ≡ given what settings.0 = λ what. ap listed (first_value-rows found (kept_name what) ∙ ap (first_of (kept_name what)) is) ∙ settings.2 what in (
+asked : (verb : Verb) (rest : List Text) (found : Found) → IsFoundIn (name_of verb ∷ rest) found → (r : Request) → AsksForRun verb found r → AskOf (name_of verb ∷ rest) r
+asked verb rest found is r asks =
+    let settings = read_found (name_of verb) rest found is in (
       name_of verb,
       settings.0,
       record {
         words_are = ap (λ l. name_of verb ∷ l) settings.1;
-        events = subst (λ v. AsksForEvents (name_of verb) v r.events) (same a_seed) asks.events;
-        frames = subst (λ v. AsksForFrames v r.sizes.frames) (same (a_size frames_size)) asks.sizes.0;
-        drum = subst (λ v. AsksForDrum v r.sizes.drum) (same (a_size drum_size)) asks.sizes.1;
+        events = subst (λ v. AsksForEvents (name_of verb) v r.events) (settings.2 a_seed) asks.events;
+        frames = subst (λ v. AsksForFrames v r.sizes.frames) (settings.2 (a_size frames_size)) asks.sizes.0;
+        drum = subst (λ v. AsksForDrum v r.sizes.drum) (settings.2 (a_size drum_size)) asks.sizes.1;
       },
     )
 
 not_asked : (verb : Verb) (rest : List Text) (found : Found) → rows_of found ≡ matches_of run_app (name_of verb ∷ rest)
     → ((r : Request) → AsksForRun verb found r → ⊥) → (r : Request) → AskOf (name_of verb ∷ rest) r → ⊥
 not_asked verb rest found is none r (name, settings, ask) =
-    let a = clean name settings (name_of verb ∷ rest) r ask in
-    let same : (what : Given) → given what settings ≡ found_values found what = λ what. sym (ap listed (first_value-rows found (kept_name what) ∙ ap (first_of (kept_name what)) is) ∙ a.values what) in
+    let same = clean_found settings (name_of verb ∷ rest) found (clean name settings (name_of verb ∷ rest) r ask) is in
     let named : name ≡ name_of verb = sym (ap (λ l. unwrap_or (slice_get l 0) []) ask.words_are) in
     none r (record {
       events = subst (λ v. AsksForEvents (name_of verb) v r.events) (same a_seed) (subst (λ n. AsksForEvents n (given a_seed settings) r.events) named ask.events);
       sizes = (subst (λ v. AsksForFrames v r.sizes.frames) (same (a_size frames_size)) ask.frames, subst (λ v. AsksForDrum v r.sizes.drum) (same (a_size drum_size)) ask.drum);
     })
 
-answer_of : (verb : Verb) (rest : List Text) → list_all is_other (name_of verb ∷ rest) ≡ true → fault_of run_app (name_of verb ∷ rest) ≡ [] → (found : Found) → rows_of found ≡ matches_of run_app (name_of verb ∷ rest)
-    → (a : Option Request) → MatchOption a ((r : Request) → AsksForRun verb found r → ⊥) (λ r. AsksForRun verb found r)
+answer_of : (verb : Verb) (rest : List Text) (found : Found) → IsFoundIn (name_of verb ∷ rest) found → (a : Option Request) → MatchOption a ((r : Request) → AsksForRun verb found r → ⊥) (λ r. AsksForRun verb found r)
     → MatchOption a ((r : Request) → AskOf (name_of verb ∷ rest) r → ⊥) (AskOf (name_of verb ∷ rest))
-answer_of verb rest others right found is None none = not_asked verb rest found is none
-answer_of verb rest others right found is (Some r) h = asked verb rest others right found is r h
+answer_of verb rest found is None none = not_asked verb rest found is.rows none
+answer_of verb rest found is (Some r) h = asked verb rest found is r h
 
 -- a verb by its name
 pub verb_is : (name : Text) (verb : Verb) → verb_named name ≡ Some verb → name ≡ name_of verb
@@ -259,32 +261,20 @@ verb_is name verb = by (bytes_eq name (codes "run")) refl (bytes_eq name (codes 
     by false e false k is = absurd (none-some verb is)
 
 -- the first of some words
-first_is : (words : List Text) (name : Text) → slice_get words 0 ≡ Some name → (rest : List Text) × (words ≡ name ∷ rest)
+pub first_is : (words : List Text) (name : Text) → slice_get words 0 ≡ Some name → (rest : List Text) × (words ≡ name ∷ rest)
 first_is [] name e = absurd (none-some name e)
 first_is (w ∷ ws) name e = (ws, ap (λ o. unwrap_or o w ∷ ws) e)
 
-pub answer : (words : List Text) (name : Text) (verb : Verb) → slice_get words 0 ≡ Some name → verb_named name ≡ Some verb → list_all is_other words ≡ true → fault_of run_app words ≡ []
-    → (found : Found) → rows_of found ≡ matches_of run_app words → (a : Option Request)
+pub answer : (words : List Text) (name : Text) (verb : Verb) → slice_get words 0 ≡ Some name → verb_named name ≡ Some verb → (found : Found) → IsFoundIn words found → (a : Option Request)
     → MatchOption a ((r : Request) → AsksForRun verb found r → ⊥) (λ r. AsksForRun verb found r)
     → MatchOption a ((r : Request) → AskOf words r → ⊥) (AskOf words)
-answer words name verb first named others right found is a h =
+answer words name verb first named found is a h =
     let begins = first_is words name first in
     let whole : words ≡ name_of verb ∷ begins.0 = begins.1 ∙ ap (λ n. n ∷ begins.0) (verb_is name verb named) in
-    subst (λ ws. list_all is_other ws ≡ true → fault_of run_app ws ≡ [] → rows_of found ≡ matches_of run_app ws → MatchOption a ((r : Request) → AskOf ws r → ⊥) (AskOf ws)) (sym whole)
-    (λ o f m. answer_of verb begins.0 o f found m a h) others right is
+    subst (λ ws. IsFoundIn ws found → MatchOption a ((r : Request) → AskOf ws r → ⊥) (AskOf ws)) (sym whole) (λ i. answer_of verb begins.0 found i a h) is
 
--- words that ask for a run have a first one, that of a verb; none is `--`, and nothing is wrong with them
-pub run_begins : (words : List Text) (r : Request) → AskOf words r → (verb : Verb) × (slice_get words 0 ≡ Some (name_of verb))
-run_begins words r (name, settings, ask) = let a = clean name settings words r ask in (a.verb, ap (λ l. slice_get l 0) a.words_are)
-
-pub verb_found : (verb : Verb) → verb_named (name_of verb) ≡ Some verb
-verb_found Run = refl
-verb_found Big = refl
-
-pub run_others : (words : List Text) (r : Request) → AskOf words r → list_all is_other words ≡ true
-run_others words r (name, settings, ask) = (clean name settings words r ask).others
-
-pub run_right : (words : List Text) (r : Request) → AskOf words r → fault_of run_app words ≡ []
+-- words that ask for a run are right
+pub run_right : (words : List Text) (r : Request) → AskOf words r → AreRight words
 run_right words r (name, settings, ask) = (clean name settings words r ask).right
 
 -- the first word, as a text

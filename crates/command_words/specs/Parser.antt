@@ -1,12 +1,16 @@
 -- What `clap` is given to read the words with.
-use Rattle.std.specs.Prelude.{ℕ, Bool, List, not, true, Some, None, Option, option_map, codes, if◌then◌else◌}
+use Rattle.std.specs.Prelude.{◌≡◌, ℕ, Bool, List, [], not, true, Some, None, Option, option_map, codes, if◌then◌else◌}
+use Rattle.std.specs.List.{list_all}
 use Rattle.std.specs.Str.{bytes_eq}
 use Rattle.std.specs.Borrow.{Bor}
-use Rattle.clap.specs.Words.{App, Rule, first_value, new_app, new_rule, with_rule}
+use Rattle.clap.specs.Words.{App, Rule, fault_of, first_value, matches_of, new_app, new_rule, rows_of, with_rule}
 use Rattle.clap.specs.Simple.{on_top}
 use Rattle.clap.specs.declared.builder.action.ArgAction.TheVariants.{Set}
 use Rattle.clap.specs.declared.parser.matches.Found.{Found}
 use Rattle.command_words.specs.Words.{AsksFor, AsksForDrum, AsksForEvents, AsksForFrames, Given, Size, Text, a_seed, a_size, drum_size, frames_size, listed, option_name}
+use Rattle.command_words.specs.declared.record_command.RecordCommand.{RecordCommand}
+use Rattle.command_words.specs.declared.record_command.RecordCommand.TheVariants.{Replay}
+use Rattle.command_words.specs.declared.request.RecordRequest.{RecordRequest}
 use Rattle.command_words.specs.declared.request.Request.{Request}
 use Rattle.command_words.specs.declared.request.EventSource.{EventSource}
 use Rattle.command_words.specs.declared.sizes.Range.{Range}
@@ -39,13 +43,27 @@ run_app = with_rule (with_rule (with_rule (on_top (λ s. record s { disable_help
 abbrev pub is_other : Text → Bool
 is_other word = not (bytes_eq word (codes "--"))
 
--- the first words that there are
+-- no word is `--`, and `clap` finds nothing wrong
+pub record AreRight (words : List Text) : Type 0 where
+  pub others : list_all is_other words ≡ true
+  pub faultless : fault_of run_app words ≡ []
+
+-- the words are right, and this is what `clap` finds in them
+pub record IsFoundIn (words : List Text) (found : Found) : Type 0 where
+  pub right : AreRight words
+  pub rows : rows_of found ≡ matches_of run_app words
+
+-- the first words of a run
 abbrev pub verb_named : Text → Option Verb
 verb_named name = if bytes_eq name (codes "run") then Some Run else (if bytes_eq name (codes "big") then Some Big else None)
 
 abbrev pub name_of : Verb → Text
 name_of Run = codes "run"
 name_of Big = codes "big"
+
+-- the first words of a command that reads a record
+abbrev pub command_named : Text → Option RecordCommand
+command_named name = if bytes_eq name (codes "replay") then Some Replay else None
 
 -- the values of what is given, as `clap` has them
 abbrev pub found_values : Found → Given → List Text
@@ -59,6 +77,13 @@ AsksForSizes found s = AsksForFrames (found_values found (a_size frames_size)) s
 pub record AsksForRun (verb : Verb) (found : Found) (request : Request) : Type 0 where
   pub events : AsksForEvents (name_of verb) (found_values found a_seed) request.events
   pub sizes : AsksForSizes found request.sizes
+
+-- a command that reads a record, and what `clap` has, which is no frames and no seed, ask for this
+pub record AsksForRecord (command : RecordCommand) (found : Found) (request : RecordRequest) : Type 0 where
+  pub command_is : request.command ≡ command
+  pub no_frames : found_values found (a_size frames_size) ≡ []
+  pub no_seed : found_values found a_seed ≡ []
+  pub drum : AsksForDrum (found_values found (a_size drum_size)) request.drum
 
 -- the number that a value, if there is one, asks for in a range
 abbrev pub AsksIn : Range → Option (Bor Text) → ℕ → Type 0

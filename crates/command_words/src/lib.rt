@@ -1,14 +1,19 @@
-//! The words of the command, read with `clap`: which of them ask for a run, of which events and of what sizes.
-//! To the layer above the words ask for one run, or they are wrong.
+//! The words of the command, read with `clap`: which of them ask for a run, of which events and of what sizes, and which for what is made of a record.
+//! To the layers above the words ask for one run, for one thing of a record, or they are wrong.
 //! Stands on `script_lang` for numbers and on `outside` for the most pages of a drum.
 #![tactic(auto)]
 
+mod parser;
+mod record_command;
+mod record_words;
 mod request;
 mod sizes;
 mod verb;
 mod words;
 
-pub use request::{EventSource, Request};
+pub use record_command::RecordCommand;
+pub use record_words::{asked_record, one_record_asking};
+pub use request::{EventSource, RecordRequest, Request};
 pub use sizes::{
     LEAST_DRUM_PAGES, LEAST_FRAMES, MOST_FRAMES, STANDARD_DRUM_PAGES, STANDARD_FRAMES, Sizes,
 };

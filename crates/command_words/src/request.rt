@@ -1,4 +1,5 @@
-// What a command asks for: which events are run, on a machine of which sizes.
+// What a command asks for: which events are run, on a machine of which sizes, or what is made of a record.
+use crate::record_command::RecordCommand;
 use crate::sizes::Sizes;
 
 /// Where the events of a run come from.
@@ -17,4 +18,13 @@ pub struct Request {
     pub events: EventSource,
     /// How large the machine is.
     pub sizes: Sizes,
+}
+
+/// What is asked to be made of a record.
+#[derive(Clone, Copy, PartialEq, Eq)]
+pub struct RecordRequest {
+    /// What is made of it.
+    pub command: RecordCommand,
+    /// The drum's pages, 256 to 16,384, where the record doesn't tell them.
+    pub drum: u32,
 }

@@ -1,17 +1,16 @@
-// What the words ask for.
-ghost use Rattle.std.specs.Prelude.{◌≡◌, false, List, map, string_bytes, IfOk, MatchOption};
-ghost use Rattle.std.specs.List.{list_all};
-ghost use Rattle.clap.specs.Words.{FailsBy, fault_of, found_of, matches_of, rows_of, rule_of};
-ghost use Rattle.command_words.specs.Parser.{AsksForRun, AsksForSizes, is_other, rule_named, run_app, seed_rule};
+// The words that ask for a run.
+ghost use Rattle.std.specs.Prelude.{◌≡◌, List, IfOk, MatchOption};
+ghost use Rattle.clap.specs.Words.{found_of};
+ghost use Rattle.command_words.specs.Parser.{AsksForRun, AsksForSizes};
 ghost use Rattle.command_words.specs.Words.{Ask, AskOf, Text};
 ghost use Rattle.command_words.specs.declared.request.Request.{Request as TheRequest};
 ghost use Rattle.command_words.specs.declared.sizes.Sizes.{Sizes as TheSizes};
 
+use crate::parser::read_words;
 use crate::request::Request;
 use crate::sizes::{DRUM, FRAMES, Sizes, size_of};
 use crate::verb::Verb;
-use clap::error::ErrorKind;
-use clap::{Arg, ArgAction, ArgMatches, Command, Error};
+use clap::ArgMatches;
 use outside::Memory;
 use std::alloc::Global;
 
@@ -29,15 +28,10 @@ pub fn asked_run(alloc: Global, words: &[String]) -> Result<Option<Request>, Mem
     let Some(verb) = Verb::named(name) else {
         return Ok(None);
     };
-    if !are_other(words) {
-        return Ok(None);
-    }
-    match matches(alloc, words) {
-        Ok(matches) => Ok(request_of(verb, &matches)),
-        Err(error) => match error.kind() {
-            ErrorKind::OutOfMemory => Err(Memory),
-            _ => Ok(None),
-        },
+    match read_words(alloc, words) {
+        Ok(Some(matches)) => Ok(request_of(verb, &matches)),
+        Ok(None) => Ok(None),
+        Err(Memory) => Err(Memory),
     }
 }
 
@@ -45,42 +39,6 @@ pub fn asked_run(alloc: Global, words: &[String]) -> Result<Option<Request>, Mem
 pub fn one_asking()
     ensures { (words : List Text) (r q : TheRequest) → AskOf words r → AskOf words q → r ≡ q }
 {}
-
-// Whether no word is `--`, which `clap` would let pass.
-fn are_other(words: &[String]) -> bool
-    ensures { result ≡ list_all is_other (map string_bytes words.now) }
-{
-    words.iter().all(|word| word.as_bytes() != b"--".as_slice())
-}
-
-// What `clap` reads of the words behind the first, which it takes for the name of a program.
-fn matches<'a>(alloc: Global, words: &'a [String]) -> Result<ArgMatches<'a>, Error>
-    ensures matches { IfOk result (λ m. rows_of (found_of m) ≡ matches_of run_app (map string_bytes words.now)) }
-    ensures kinds { FailsBy (fault_of run_app (map string_bytes words.now)) result }
-{
-    Command::new(alloc, "tenex")
-        .disable_help_flag(true)
-        .arg(option(alloc, "frames"))?
-        .arg(option(alloc, "drum"))?
-        .arg(seed(alloc))?
-        .try_get_matches_from(words)
-}
-
-// `--name` with one value.
-fn option<'a>(alloc: Global, name: &'a str) -> Arg<'a>
-    ensures rule { rule_of result ≡ rule_named name.now }
-    ensures local { result.global ≡ false }
-{
-    Arg::new(alloc, name).long(name).action(ArgAction::Set)
-}
-
-// A word that stands alone.
-fn seed<'a>(alloc: Global) -> Arg<'a>
-    ensures rule { rule_of result ≡ seed_rule }
-    ensures local { result.global ≡ false }
-{
-    Arg::new(alloc, "seed").action(ArgAction::Set)
-}
 
 // The run that a first word and the values behind it ask for.
 fn request_of(verb: Verb, matches: &ArgMatches<'_>) -> Option<Request>

@@ -1,6 +1,8 @@
 // Words, and the run that they ask for.
 use crate::same::same_for;
-use command_words::{EventSource, Request, Sizes, asked_run};
+use command_words::{
+    EventSource, RecordCommand, RecordRequest, Request, Sizes, asked_record, asked_run,
+};
 use std::alloc::{AllocError, Global};
 use std::process::Abort;
 
@@ -166,4 +168,65 @@ fn other_words_ask_for_nothing(rt: HostRuntime) {
     ask_for_nothing(&rt, rt.alloc(), &NO_WORDS);
     let none = Vec::new(rt.alloc());
     same_for(&rt, b"no words", asked_run(rt.alloc(), &none), Ok(None));
+}
+
+// The words of a line ask for this of a record, or for nothing.
+fn ask_of_record(rt: &impl Abort, alloc: Global, line: &str, want: Option<RecordRequest>) {
+    let words = words_of(alloc, line).expect(rt, "no memory");
+    same_for(rt, line.as_bytes(), asked_record(alloc, &words), Ok(want));
+}
+
+// Lines that ask for a replay, with so many pages of the drum.
+const REPLAYS: [(&str, u32); 5] = [
+    ("replay", 2048),
+    ("replay --drum 256", 256),
+    ("replay --drum=16384", 16384),
+    ("replay --drum=257", 257),
+    ("replay --drum 000000256", 256),
+];
+
+#[test]
+fn right_words_ask_for_a_replay(rt: HostRuntime) {
+    for &(line, drum) in &REPLAYS {
+        let request = RecordRequest {
+            command: RecordCommand::Replay,
+            drum,
+        };
+        ask_of_record(&rt, rt.alloc(), line, Some(request));
+        ask(&rt, rt.alloc(), line, None);
+    }
+}
+
+const NO_REPLAYS: [&str; 22] = [
+    "",
+    "REPLAY",
+    "replays",
+    "replay ",
+    "replay 7",
+    "replay replay",
+    "replay --",
+    "replay --help",
+    "replay --frames 160",
+    "replay --frames=160",
+    "replay --frames 160 --drum 256",
+    "replay --drum",
+    "replay --drum=",
+    "replay --drum 255",
+    "replay --drum 16385",
+    "replay --drum 0000000256",
+    "replay --drum 256 --drum 256",
+    "replay --drum=256 7",
+    "--drum 256 replay",
+    "run",
+    "run --drum 256",
+    "big 7",
+];
+
+#[test]
+fn other_words_ask_for_no_replay(rt: HostRuntime) {
+    for &line in &NO_REPLAYS {
+        ask_of_record(&rt, rt.alloc(), line, None);
+    }
+    let none = Vec::new(rt.alloc());
+    same_for(&rt, b"no words", asked_record(rt.alloc(), &none), Ok(None));
 }

@@ -3,7 +3,7 @@ use Rattle.std.proofs.lemmas.Iterator.{YieldsList-from_slice}
 use Rattle.std.proofs.lemmas.Iterator.Search.{all_from_yields_List}
 use Rattle.std.proofs.lemmas.List.Folds.{list_all-map}
 use Rattle.command_words.specs.Parser.{is_other}
-use Rattle.command_words.proofs.words.are_other.Goals as goal
+use Rattle.command_words.proofs.parser.are_other.Goals as goal
 
 pub returns : goal.returns
 returns c =

@@ -3,7 +3,7 @@ use Rattle.std.proofs.lemmas.Result.{IfOk-weaker}
 use Rattle.clap.specs.Words.{App, FailsBy, app_of, fault_of, is_simple, is_simple_and_free, matches_of, new_app, with_rule}
 use Rattle.clap.specs.Simple.{app_of_fields, on_top}
 use Rattle.command_words.specs.Parser.{run_app}
-use Rattle.command_words.proofs.words.matches.Goals as goal
+use Rattle.command_words.proofs.parser.matches.Goals as goal
 
 abbrev disabled : App → App
 disabled = on_top (λ s. record s { disable_help_flag = true })
