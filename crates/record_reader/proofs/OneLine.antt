@@ -2,6 +2,7 @@
 use Rattle.std.proofs.Common.{◌≡◌, ℕ, ◌^◌, ◌<◌, ◌≤◌, List, ◌++◌, length, codes, decimal, refl, sym, ◌∙◌, ap, subst, arith, append_assoc, length-append, lit<}
 use Rattle.std.proofs.lemmas.Fmt.{length-decimal-le}
 use Rattle.std.proofs.lemmas.List.{append_cancel_left}
+use Rattle.outside.specs.declared.TheConstants.{MOST_DRUM_PAGES}
 use Rattle.script_texts.specs.declared.event.Event.{Event}
 use Rattle.script_texts.specs.declared.event.Step.TheVariants.{Outer, Unit as AUnit, Idle}
 use Rattle.machine_names.specs.declared.names.ForkName.{ForkName}
@@ -63,7 +64,7 @@ i_line rest (run Idle n) h = (n, append_cancel_left (codes "I ") _ _ h.0, h.1.1.
 i_line rest (version pages) h = absurd (omega (arith, ap lead h.0))
 i_line rest (counts reads writes) h = absurd (omega (arith, ap lead h.0))
 
-pub v_line : (rest : List ℕ) (l : RecordLine) → IsLineOf (codes "V " ++ rest) l → (n : ℕ) × (rest ≡ codes "2 " ++ decimal n) × (256 ≤ n) × (n ≤ 65536)
+pub v_line : (rest : List ℕ) (l : RecordLine) → IsLineOf (codes "V " ++ rest) l → (n : ℕ) × (rest ≡ codes "2 " ++ decimal n) × (256 ≤ n) × (n ≤ MOST_DRUM_PAGES)
 v_line rest (run (AUnit f) n) h = absurd (omega (arith, ap lead h.0))
 v_line rest (run (Outer e) n) h = absurd (no_event e _ refl (sym h.0))
 v_line rest (run Idle n) h = absurd (omega (arith, ap lead h.0))

@@ -1,5 +1,6 @@
 -- Which lines a record may have, and which may stand behind which.
 use Rattle.std.specs.Prelude.{◌≡◌, ℕ, ◌+◌, ◌^◌, ◌<◌, ◌≤◌, List, [], ◌∷◌, false, Option, None, Some}
+use Rattle.outside.specs.declared.TheConstants.{MOST_DRUM_PAGES}
 use Rattle.script_texts.specs.declared.event.Step.{Step}
 use Rattle.script_texts.specs.declared.event.Step.TheVariants.{Outer}
 use Rattle.script_texts.specs.Limits.{FitsStep}
@@ -25,7 +26,7 @@ FitsCount s n = (1 ≤ n) × (n ≤ most_turns)
 
 -- the numbers of a line are within their limits
 abbrev pub FitsLine : RecordLine → Type 0
-FitsLine (version pages) = (256 ≤ pages) × (pages ≤ 65536)
+FitsLine (version pages) = (256 ≤ pages) × (pages ≤ MOST_DRUM_PAGES)
 FitsLine (run s n) = FitsStep s × FitsCount s n
 FitsLine (counts reads writes) = (reads < 2 ^ 64) × (writes < 2 ^ 64)
 

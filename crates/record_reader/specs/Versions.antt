@@ -1,5 +1,6 @@
 -- The record of a run that is done, in each version. A record of the second version begins with the size of the drum.
 use Rattle.std.specs.Prelude.{ℕ, ◌^◌, ◌<◌, ◌≤◌, List, [], ◌∷◌, ◌++◌, length, Option, None, Some, All}
+use Rattle.outside.specs.declared.TheConstants.{MOST_DRUM_PAGES}
 use Rattle.script_texts.specs.declared.event.Step.{Step}
 use Rattle.script_texts.specs.Limits.{FitsStep}
 use Rattle.script_texts.specs.Script.{most_turns}
@@ -28,7 +29,7 @@ size_told lines = None
 -- a drum may have this size, where one is told
 abbrev pub IsSize : Option ℕ → Type 0
 IsSize None = Unit {0}
-IsSize (Some pages) = (256 ≤ pages) × (pages ≤ 65536)
+IsSize (Some pages) = (256 ≤ pages) × (pages ≤ MOST_DRUM_PAGES)
 
 -- a record that can be read again: its entries and numbers are within their limits, and so is its text
 pub record CanBeRead (size : Option ℕ) (entries : List Step) (reads writes : ℕ) : Type 0 where

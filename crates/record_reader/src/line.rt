@@ -9,13 +9,14 @@ ghost use Rattle.record_reader.specs.OneLine.{IsEventLine, IsLineOf, IsNoLine, t
 use crate::number::number;
 use line_buffer::MOST_LINE;
 use machine_names::{ForkName, LAST_SERIAL, TERMINALS, Tty};
+use outside::MOST_DRUM_PAGES;
 use script_lang::{LineRoom, MOST_TURNS, Read, cut, read_line, write_line};
 use script_texts::{Event, Step};
 
 // The sizes that a drum may have.
 const FEWEST_PAGES: u64 = 256;
 
-const MOST_PAGES: u64 = 65_536;
+const MOST_PAGES: u64 = MOST_DRUM_PAGES as u64;
 
 /// What a line of a record says.
 #[derive(Clone, Copy)]
