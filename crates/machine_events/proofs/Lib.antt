@@ -1,13 +1,13 @@
 pub mod Gave
-mod Given
-mod GivenParts
+pub mod Given
+pub mod GivenParts
 mod ForksShown
 mod Listed
-mod Runnable
+pub mod Runnable
 mod PassedOver
 mod RowPassed
-mod StepDid
+pub mod StepDid
 mod TurnsPassed
-mod Typed
-mod TypedIn
+pub mod Typed
+pub mod TypedIn
 pub mod ListsTied

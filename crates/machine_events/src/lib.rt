@@ -6,4 +6,5 @@
 mod giving;
 mod machine;
 
+pub use giving::{give_all, give_echo};
 pub use machine::{Config, Ended, Machine};
