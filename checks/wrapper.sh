@@ -88,6 +88,33 @@ handed_on asm 15
 said 'The POKE lines come'
 said 'no contract of them'
 said "'checked: ..' and 'run=..'"
+same_answer replay ''
+same_answer replay 7
+same_answer replay help
+same_answer replay --help
+same_answer replay replay
+same_answer replay --
+same_answer replay --frames 160
+same_answer replay --frames=160
+same_answer replay --drum
+same_answer replay --drum=
+same_answer replay --drum ''
+same_answer replay --drum 255
+same_answer replay --drum 16385
+same_answer replay --drum=16385
+same_answer replay --drum 0000000256
+same_answer replay --drum=256 --drum=256
+same_answer replay --drum 256 --drum 256
+same_answer replay --drum 256 7
+same_answer replay 7 --drum=256
+same_answer REPLAY
+handed_on replay
+said 'the record is played'
+said 'no contract of them'
+said "'checked: ..' and 'run=..'"
+handed_on replay --drum 256
+handed_on replay --drum=16384
+handed_on replay --drum 000000256
 same_answer run help
 same_answer run --help
 same_answer run run

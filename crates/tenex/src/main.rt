@@ -1,6 +1,6 @@
 //! The program: it hands its words, standard input, standard output, the file `tenex.record` and a drum
-//! to the console, or the first three to the assembler. To its user the exit status is how that ended, and standard error
-//! says what helps. Stands on tenex_console and asm_console.
+//! to the console, or the first three to the assembler, or to what reads a record. To its user the exit status is how that
+//! ended, and standard error says what helps. Stands on tenex_console, asm_console and record_console.
 #![tactic(auto)]
 
 mod messages;
@@ -10,9 +10,11 @@ mod watch;
 
 use asm_console::{AsmStatus, Stopped, asm};
 use asm_core::AsmFault;
+use command_words::RecordCommand;
 use messages::{explain, explain_error, explain_line, explain_stopped, usage};
 use outside::{MOST_DRUM_PAGES, Source, StdSink, StdSource, SureDrum};
 use program_text::Kept;
+use record_console::record_command;
 use recording::{RECORD, make_record};
 use std::fs::File;
 use std::io::{self, BufWriter, ErrorKind};
@@ -21,7 +23,7 @@ use std::rt::Env;
 use std::{env, fs};
 use tenex_console::tenex;
 use texts::Status;
-use watch::{BadLine, Watched};
+use watch::{BadLine, TextKind, Watched};
 
 /// What stands in for a standard stream that is closed: a folder, of which nothing is read and to which nothing is written.
 const NO_STREAM: &str = "/";
@@ -54,7 +56,7 @@ fn refused<R: Print>(rt: &R, line: &str, status: u8) -> u8 {
 
 /// There is no memory, before the run or for its drum and its streams.
 fn no_memory(rt: &HostRuntime) -> u8 {
-    explain(rt, Status::Memory);
+    explain(rt, Status::Memory, TextKind::Script);
     refused(rt, "?MEMORY", Status::Memory.number())
 }
 
@@ -83,7 +85,7 @@ fn run(rt: &HostRuntime, words: &[String], record: File) -> u8 {
     if status == Status::Script {
         explain_bad(rt, &script);
     }
-    explain(rt, status);
+    explain(rt, status, TextKind::Script);
     explain_error(rt, "standard input", script.source().error());
     explain_error(rt, "standard output", out.error());
     explain_error(rt, RECORD, rec.error());
@@ -122,10 +124,33 @@ fn bad_line<'a, S: Source>(why: &Stopped, text: &'a Kept<S>) -> Option<BadLine<'
     }
 }
 
+/// Makes of the record on standard input what these words ask for. No file is made.
+fn read_record(rt: &HostRuntime, words: &[String]) -> u8 {
+    let alloc = rt.alloc();
+    let Ok(printer) = BufWriter::new(alloc, rt.stdout()) else {
+        return no_memory(rt);
+    };
+    let mut record = StdSource::new(rt.stdin());
+    let mut out = StdSink::new(printer);
+    let status = record_command(alloc, words, &mut record, &mut out);
+    explain(rt, status, TextKind::Record);
+    explain_error(rt, "standard input", record.error());
+    explain_error(rt, "standard output", out.error());
+    status.number()
+}
+
 /// Whether the words are those of the assembler, right or wrong.
 fn ask_for_words(words: &[String]) -> bool {
     match words {
         [name, ..] => name.as_str() == "asm",
+        [] => false,
+    }
+}
+
+/// Whether the words are those of a command that reads a record, right or wrong.
+fn ask_of_record(words: &[String]) -> bool {
+    match words {
+        [name, ..] => RecordCommand::named(name.as_str()).is_some(),
         [] => false,
     }
 }
@@ -157,6 +182,7 @@ fn status(rt: &HostRuntime) -> u8 {
     match words(rt) {
         Ok(words) if ask_for_usage(&words) => wrong_words(rt),
         Ok(words) if ask_for_words(&words) => assemble(rt, &words),
+        Ok(words) if ask_of_record(&words) => read_record(rt, &words),
         Ok(words) => run_recorded(rt, &words),
         Err(error) if error.kind() == ErrorKind::OutOfMemory => no_memory(rt),
         Err(_) => refuse_no_text(rt),

@@ -11,6 +11,7 @@ const USAGE: &str = "\
 usage: tenex run [--frames N] [--drum N]
        tenex big SEED [--frames N] [--drum N]
        tenex asm T
+       tenex replay [--drum N]
   run: runs the console script on standard input; the transcript goes to standard output, and the record to the
   file tenex.record in the current folder, which is made anew
   big: runs the script that is generated from the seed, a number of 1 to 9 digits, in the same way, and prints
@@ -19,31 +20,55 @@ usage: tenex run [--frames N] [--drum N]
   --drum N     pages of the drum, 256 to 16384: the most pages and forks at once; 2048 if not given
   asm: assembles the program on standard input; the lines of a script that put its words at terminal T, 0 to 15,
   go to standard output, and no file is made
-  docs/MACHINE.md has the lines of a script and of a program, and examples/ some to begin with";
+  replay: plays the record on standard input; the transcript of its entries goes to standard output, and no file is
+  made; where the run had another drum than 2048 pages, the option tells its size
+  docs/MACHINE.md has the lines of a script, a program and a record, and examples/ some to begin with";
+
+/// An entry of a record is a unit of a fork that can't run there.
+const NO_TURN: &str = "tenex: that entry of the record is a unit of a fork that can't run there: \
+    the record is of a run with another drum (--drum N), or no run wrote it";
 
 /// Says how the program is used.
 pub fn usage(rt: &HostRuntime) {
     let _ = rt.eprintln(USAGE);
 }
 
-/// What helps where a run ended like this: nothing, where the script was run, or where the error of a file
-/// says it.
-fn help(status: Status) -> Option<&'static str> {
+/// What helps where a command that read this kind of text ended like this: nothing, where it was done, or where the
+/// error of a file says it.
+fn help(status: Status, of: TextKind) -> Option<&'static str> {
     match status {
         Status::Done | Status::ReadFault | Status::WriteFault => None,
         Status::Usage => Some(USAGE),
-        Status::Script => Some("tenex: docs/MACHINE.md has the lines of a script"),
+        Status::Script => Some(lines_of(of)),
         Status::DrumFault => Some("tenex: the drum failed"),
         Status::Memory => Some("tenex: there is no memory for a machine of this size"),
-        Status::LongScript => Some("tenex: the script has more than 16777216 bytes"),
-        Status::Illegal => Some("tenex: the record has a unit of a fork that can't run there"),
+        Status::LongScript => Some(limit_of(of)),
+        Status::Illegal => Some(NO_TURN),
         Status::Image => Some("tenex: docs/MACHINE.md has the parts of an image"),
     }
 }
 
-/// Says what helps where a run ended like this.
-pub fn explain(rt: &HostRuntime, status: Status) {
-    if let Some(text) = help(status) {
+/// Where the lines of this kind of text are described.
+fn lines_of(kind: TextKind) -> &'static str {
+    match kind {
+        TextKind::Script => "tenex: docs/MACHINE.md has the lines of a script",
+        TextKind::Program => "tenex: docs/MACHINE.md has the lines of a program",
+        TextKind::Record => "tenex: docs/MACHINE.md has the lines of a record",
+    }
+}
+
+/// How long this kind of text may be, where it is longer.
+fn limit_of(kind: TextKind) -> &'static str {
+    match kind {
+        TextKind::Script => "tenex: the script has more than 16777216 bytes",
+        TextKind::Program => "tenex: the program has more than 1048576 bytes",
+        TextKind::Record => "tenex: the record has more than 268435456 bytes",
+    }
+}
+
+/// Says what helps where a command that read this kind of text ended like this.
+pub fn explain(rt: &HostRuntime, status: Status, of: TextKind) {
+    if let Some(text) = help(status, of) {
         let _ = rt.eprintln(text);
     }
 }
@@ -60,6 +85,7 @@ fn name_of(kind: TextKind) -> &'static str {
     match kind {
         TextKind::Script => "a script",
         TextKind::Program => "a program",
+        TextKind::Record => "a record",
     }
 }
 
@@ -116,7 +142,7 @@ pub fn explain_stopped(rt: &HostRuntime, why: &Stopped, bad: Option<&BadLine<'_>
         Stopped::Usage => usage(rt),
         Stopped::ReadFault => {}
         Stopped::LongText => {
-            let _ = rt.eprintln("tenex: the program has more than 1048576 bytes");
+            let _ = rt.eprintln(limit_of(TextKind::Program));
         }
         Stopped::Fault(fault) => explain_fault(rt, fault),
     }

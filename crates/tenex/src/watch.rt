@@ -20,11 +20,12 @@ pub enum Wrong {
     Unended,
 }
 
-/// What a bad line was to be a line of.
+/// What a text is, or was to be.
 #[derive(Clone, Copy)]
 pub enum TextKind {
     Script,
     Program,
+    Record,
 }
 
 /// A bad line: its number, counted from 1, what is wrong with it, of what it is one, and its bytes.

@@ -1,0 +1,4 @@
+#!/usr/bin/env bash
+# Replays the record of each example with the built program, and compares what it writes with the example's transcript; then rows of
+# records and words, and three records cut and changed at each byte. Status 1: something differs, and each difference was printed.
+cd "$(dirname "$0")/.." && { ./tenex build || exit 1; } && exec python3 checks/replay.py build/tenex
