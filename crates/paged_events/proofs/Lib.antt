@@ -1,0 +1,10 @@
+mod GivenRows
+mod Over
+mod Turning
+mod Deeds
+mod Outside
+mod Texts
+mod TypeIn
+mod Acted
+mod RowsMore
+mod NoMoves

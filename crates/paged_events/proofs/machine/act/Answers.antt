@@ -1,0 +1,70 @@
+use Rattle.std.proofs.Common.{◌≡◌, ◌≤◌, ℕ, Bool, true, false, [], drop, refl, sym, ◌∙◌, ap, subst, arith}
+use Rattle.std.specs.Prelude.{Result, Ok, Err}
+use Rattle.script_texts.specs.declared.event.Event.{Event}
+use Rattle.script_texts.specs.declared.event.Event.TheVariants.{Auto, Drum, Evict, Run}
+use Rattle.script_texts.specs.Follows.{auto_after}
+use Rattle.page_waits.specs.Waits.{the_lists}
+use Rattle.paged_events.specs.Given.{Acted, Gives}
+use Rattle.paged_events.specs.declared.fault.Fault.{Fault}
+use Rattle.paged_events.proofs.Acted.{adds_none, adds_some, event_given, state_gave, transfers_acted}
+use Rattle.paged_events.proofs.Outside.{outside_nil, transfers_used, uses_well}
+use Rattle.paged_events.proofs.Over.{over_none}
+use Rattle.paged_events.proofs.machine.act.Goals as goal
+
+pub returns-in-Run-clause-acted : goal.returns-in-Run-clause-acted
+returns-in-Run-clause-acted g c =
+    subst (λ (e : Event). Acted g.S.System.means g.D.Drum.held g.T.Taker.stands g.T.Taker.cut c.args.waits.now.auto e c.run.result c.args.waits.now.system c.run.new.waits.system c.args.drum.now c.run.new.drum c.args.out.now c.run.new.out) (sym c.in-Run.is) c.run.ensures.acted
+
+pub returns-in-Run-clause-auto : goal.returns-in-Run-clause-auto
+returns-in-Run-clause-auto g c =
+    c.run.ensures.marks.auto ∙ sym (ap (auto_after c.args.waits.now.auto) c.in-Run.is)
+
+pub returns-in-TypeIn-clause-acted : goal.returns-in-TypeIn-clause-acted
+returns-in-TypeIn-clause-acted g c =
+    subst (λ (e : Event). Acted g.S.System.means g.D.Drum.held g.T.Taker.stands g.T.Taker.cut c.args.waits.now.auto e c.type_in.result c.args.waits.now.system c.type_in.new.waits.system c.args.drum.now c.type_in.new.drum c.args.out.now c.type_in.new.out) (sym c.in-TypeIn.is) c.type_in.ensures.acted
+
+pub returns-in-TypeIn-clause-auto : goal.returns-in-TypeIn-clause-auto
+returns-in-TypeIn-clause-auto g c =
+    c.type_in.ensures.marks.auto ∙ sym (ap (auto_after c.args.waits.now.auto) c.in-TypeIn.is)
+
+pub returns-in-Poke-clause-auto : goal.returns-in-Poke-clause-auto
+returns-in-Poke-clause-auto g c =
+    c.look.ensures.marks.auto ∙ sym (ap (auto_after c.args.waits.now.auto) c.in-Poke.is)
+
+pub returns-in-Examine-clause-auto : goal.returns-in-Examine-clause-auto
+returns-in-Examine-clause-auto g c =
+    c.look-in-Examine.ensures.marks.auto ∙ sym (ap (auto_after c.args.waits.now.auto) c.in-Examine.is)
+
+pub returns-in-Evict-clause-acted : goal.returns-in-Evict-clause-acted
+returns-in-Evict-clause-acted g c =
+    subst (λ (e : Event). Acted g.S.System.means g.D.Drum.held g.T.Taker.stands g.T.Taker.cut c.args.waits.now.auto e c.evict.result c.args.waits.now.system c.evict.new.waits.system c.args.drum.now c.args.drum.now c.args.out.now c.args.out.now) (sym c.in-Evict.is)
+    (subst (λ r. Acted g.S.System.means g.D.Drum.held g.T.Taker.stands g.T.Taker.cut c.args.waits.now.auto (Evict c.in-Evict.frame) r c.args.waits.now.system c.evict.new.waits.system c.args.drum.now c.args.drum.now c.args.out.now c.args.out.now) (sym c.evict.ensures.none)
+    (event_given g.S.System.means g.D.Drum.held g.T.Taker.stands g.T.Taker.cut c.args.waits.now.auto (Evict c.in-Evict.frame) c.args.waits.now.system c.evict.new.waits.system c.args.drum.now c.args.drum.now c.args.out.now c.args.out.now 0 [] refl refl (adds_some g.S.System.means 0 c.args.waits.now.system c.evict.new.waits.system c.evict.ensures.state.told.within) (state_gave g.S.System.means g.D.Drum.held g.T.Taker.stands g.T.Taker.cut c.args.waits.now.auto c.args.waits.now.system c.evict.new.waits.system c.args.drum.now c.args.out.now c.evict.ensures.state)))
+
+pub returns-in-Evict-clause-auto : goal.returns-in-Evict-clause-auto
+returns-in-Evict-clause-auto g c =
+    c.evict.ensures.marks.auto ∙ sym (ap (auto_after c.args.waits.now.auto) c.in-Evict.is)
+
+pub returns-in-Drum-clause-acted : goal.returns-in-Drum-clause-acted
+returns-in-Drum-clause-acted g c =
+    subst (λ (e : Event). Acted g.S.System.means g.D.Drum.held g.T.Taker.stands g.T.Taker.cut c.args.waits.now.auto e c.end_transfers.result c.args.waits.now.system c.end_transfers.new.waits.system c.args.drum.now c.end_transfers.new.drum c.args.out.now c.args.out.now) (sym c.in-Drum.is)
+    (transfers_acted g.S.System.means g.D.Drum.held g.T.Taker.stands g.T.Taker.cut c.args.waits.now.auto the_lists c.in-Drum.n c.end_transfers.result c.args.waits.now.system c.end_transfers.new.waits.system c.args.waits.now.lists c.end_transfers.new.waits.lists c.args.drum.now c.end_transfers.new.drum c.args.out.now c.end_transfers.ensures.none c.end_transfers.ensures.quiet c.end_transfers.ensures.fails)
+
+pub returns-in-Drum-clause-outside : goal.returns-in-Drum-clause-outside
+returns-in-Drum-clause-outside g c =
+    transfers_used g.T.Taker.onward g.T.Taker.fault_count g.D.Drum.fault_count g.D.Drum.read_count g.D.Drum.write_count g.D.Drum.size c.end_transfers.result c.args.out.now c.args.drum.now c.end_transfers.new.drum c.end_transfers.ensures.later c.end_transfers.ensures.reads c.end_transfers.ensures.writes c.end_transfers.ensures.size c.end_transfers.ensures.cause c.end_transfers.ensures.fails
+
+pub returns-in-Drum-clause-auto : goal.returns-in-Drum-clause-auto
+returns-in-Drum-clause-auto g c =
+    c.end_transfers.ensures.marks.auto ∙ sym (ap (auto_after c.args.waits.now.auto) c.in-Drum.is)
+
+pub returns-in-Auto-clause-acted : goal.returns-in-Auto-clause-acted
+returns-in-Auto-clause-acted g c =
+    subst (λ (e : Event). Acted g.S.System.means g.D.Drum.held g.T.Taker.stands g.T.Taker.cut c.args.waits.now.auto e c.set_auto.result c.args.waits.now.system c.set_auto.new.waits.system c.args.drum.now c.args.drum.now c.args.out.now c.args.out.now) (sym c.in-Auto.is)
+    (subst (λ r. Acted g.S.System.means g.D.Drum.held g.T.Taker.stands g.T.Taker.cut c.args.waits.now.auto (Auto c.in-Auto.on) r c.args.waits.now.system c.set_auto.new.waits.system c.args.drum.now c.args.drum.now c.args.out.now c.args.out.now) (sym c.set_auto.ensures.none)
+    (subst (λ s. Acted g.S.System.means g.D.Drum.held g.T.Taker.stands g.T.Taker.cut c.args.waits.now.auto (Auto c.in-Auto.on) (Ok 0) c.args.waits.now.system s c.args.drum.now c.args.drum.now c.args.out.now c.args.out.now) (sym c.set_auto.ensures.system)
+    (event_given g.S.System.means g.D.Drum.held g.T.Taker.stands g.T.Taker.cut c.args.waits.now.auto (Auto c.in-Auto.on) c.args.waits.now.system c.args.waits.now.system c.args.drum.now c.args.drum.now c.args.out.now c.args.out.now 0 [] refl refl (adds_none g.S.System.means c.args.waits.now.system) (over_none g.S.System.means g.D.Drum.held g.T.Taker.stands g.T.Taker.cut c.args.waits.now.auto c.args.waits.now.system c.args.drum.now c.args.out.now))))
+
+pub returns-in-Auto-clause-auto : goal.returns-in-Auto-clause-auto
+returns-in-Auto-clause-auto g c =
+    c.set_auto.ensures.mark ∙ sym (ap (auto_after c.args.waits.now.auto) c.in-Auto.is)

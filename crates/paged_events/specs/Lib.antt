@@ -1,0 +1,6 @@
+pub mod Faults
+pub mod Outside
+pub mod Given
+pub mod Typing
+pub mod Rows
+pub mod Events
