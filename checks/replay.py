@@ -143,9 +143,9 @@ def replay_streams():
     os.close(folder)
     with open('/dev/full', 'wb') as full:
         ends('a transcript that cannot be written', (6, b''), ['replay'], first, said=b'tenex: standard output: ', stdout=full)
-        ends('a usage that cannot be written', (6, b''), ['replay', '7'], first, said=b'usage: ', stdout=full)
+        ends('a usage that cannot be written', (6, b''), ['replay', '7'], first, said=b'tenex: standard output: ', stdout=full)
     few = (40_000 * 1024, 40_000 * 1024)
-    ends('no memory', (4, b'?MEMORY\n'), ['replay'], first, said=b'tenex: there is no memory', preexec_fn=lambda: resource.setrlimit(resource.RLIMIT_AS, few))
+    ends('no memory', (4, b'?MEMORY\n'), ['replay', '--drum', '16384'], first, said=b'tenex: there is no memory', preexec_fn=lambda: resource.setrlimit(resource.RLIMIT_AS, few))
 
 
 def is_front(out, transcript):
