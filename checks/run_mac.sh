@@ -48,11 +48,32 @@ shows '@A\nX 0 1 000001 000000000101\n' 0 begins.mac begins.script
 printf ' HALT\n' >bad.mac
 shows '' 10 bad.mac
 grep -q '^tenex: line 1 is no line of a program:  HALT$' messages || fail "a bad line is not shown, but '$(cat messages)'"
-shows '' 1 begins.mac 108
-shows '' 1 begins.mac 100 x
-shows '' 1 absent.mac
-shows '' 1 begins.mac absent.script
-shows '' 1
+
+# refused SAID WORD..: run-mac runs nothing, and its one line on standard error says why.
+refused() {
+    local said=$1
+    shift
+    shows '' 1 "$@"
+    printf 'run-mac: %s\n' "$said" | diff - messages >&2 || fail "the words '$*': another reason (wanted, then found)"
+}
+
+refused "'108' is no address of 1 to 6 octal digits" begins.mac 108
+refused "'' is no address of 1 to 6 octal digits" begins.mac ''
+refused "'1000000' is no address of 1 to 6 octal digits" begins.mac 1000000
+refused "'x' is no number of turns of 1 to 7 decimal digits" begins.mac 100 x
+refused "'10000000' is no number of turns of 1 to 7 decimal digits" begins.mac 100 10000000
+refused 'there is no file absent.mac' absent.mac
+refused 'there is no file absent.script' begins.mac absent.script
+refused 'begins.txt is neither an octal address nor a script, whose name ends in .script' begins.mac begins.txt
+printf 'FILE <A>P.SAV\nWORDS <A>P.SAV 0 120 140\nLOGIN 0 A\nTYPE 0 RUN P\\015\nRUN 10\n' >filed.script
+refused 'filed.script has neither a POKE nor a START line, so the program has no place in it' begins.mac filed.script
+echo 'POKE 0 2000 1' >>filed.script
+refused 'filed.script has no START line, and its program is in a file, which run-mac does not change' begins.mac filed.script
+for words in '' --help --script 'begins.mac 101 1 1' 'begins.mac begins.script 1'; do
+    # shellcheck disable=SC2086
+    shows '' 1 $words
+    grep -q '^usage: run-mac ' messages || fail "the words '$words': no usage, but '$(cat messages)'"
+done
 
 if [ "$failures" -ne 0 ]; then
     echo "run_mac.sh: $failures failures in $cases cases" >&2

@@ -34,6 +34,14 @@ def shown(*words):
     return out.getvalue()
 
 
+def refused(*words):
+    """Why a command shows nothing: it prints nothing, and ends with this."""
+    try:
+        return f"it is not refused, but shows {shown(*words)!r}"
+    except SystemExit as end:
+        return end.code
+
+
 def expect(what, found, wanted):
     if found != wanted:
         fail(f"{what}: {found!r} instead of {wanted!r}")
@@ -42,7 +50,10 @@ def expect(what, found, wanted):
 def check_screens(path):
     """Each character of a terminal is on its screen, and the printed ones as they are."""
     typed = [it for it in map(texts.typed_by, texts.read(path)) if it]
-    for terminal in {0} | {t for t, _ in typed}:
+    terminals = {t for t, _ in typed}
+    for terminal in set(range(16)) - terminals:
+        expect(f"{path}, terminal {terminal}", refused("screen", terminal, path), f"view.py: {path}: terminal {terminal} shows nothing there")
+    for terminal in terminals:
         wanted = "".join(text for t, text in typed if t == terminal)
         screen = shown("screen", terminal, path)
         expect(f"{path}, terminal {terminal}: how many", len(screen), len(wanted.replace("\r\n", "\n")) + 1)
@@ -51,6 +62,9 @@ def check_screens(path):
 
 def check_listing(path):
     """Each word that is put has its line, and its instruction is that of the comment before it, where there is one."""
+    if not any(map(texts.puts_of, texts.read(path))):
+        expect(path, refused("listing", path), f"view.py: {path}: no line is a POKE or a WORDS line")
+        return 0
     rows = [row.split(None, 2) for row in shown("listing", path).split("\n") if row.startswith("  ")]
     said = {}
     agree = 0
@@ -109,12 +123,12 @@ def check_page():
 
 
 def check_readme():
-    """The commands in README.md, each with what it prints below it."""
-    blocks = re.findall(r"^    \$ (.*)\n((?:    .*\n)*)", open("view/README.md", encoding="utf-8").read(), re.M)
-    for command, block in blocks:
-        words, _, to = command.partition(" > ")
+    """The commands in README.md, each with what it prints below it, or with its picture."""
+    blocks = re.findall(r"^    \$ (.*)\n((?:    .*\n)*)(?:\n!\[.*\]\(\.\./(.*)\)\n)?", open("view/README.md", encoding="utf-8").read(), re.M)
+    for command, block, to in blocks:
+        words, to_file, _ = command.partition(" > ")
         found = shown(*shlex.split(words)[1:])
-        if to:
+        if to_file:
             expect(f"{to}, which is not up to date: its length", len(open(to, encoding="utf-8").read()), len(found))
             expect(f"{to}, which is not up to date", open(to, encoding="utf-8").read() == found, True)
         else:
@@ -135,6 +149,7 @@ def main():
         check_looks(record, transcript)
     check_page()
     check_readme()
+    expect("a file that isn't there", refused("listing", "absent.mac"), "view.py: absent.mac: No such file or directory")
     if failures:
         sys.exit(1)
     print(f"view.py: the texts of {len(records)} examples are shown as they are, and {agree} instructions are those of their comments")

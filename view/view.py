@@ -26,8 +26,10 @@ def seen(characters):
 def screen(terminal, transcript):
     if not re.fullmatch("[0-9]{1,2}", terminal):
         raise texts.BadText(f"a terminal is a number, and this is none: {terminal}")
-    parts = map(texts.typed_by, texts.read(transcript))
-    print(seen("".join(part[1] for part in parts if part and part[0] == int(terminal))))
+    parts = [part[1] for part in map(texts.typed_by, texts.read(transcript)) if part and part[0] == int(terminal)]
+    if not parts:
+        raise texts.BadText(f"{transcript}: terminal {int(terminal)} shows nothing there")
+    print(seen("".join(parts)))
 
 
 def place_name(place):
@@ -35,13 +37,15 @@ def place_name(place):
 
 
 def listing(script):
+    puts = [put for line in texts.read(script) for put in texts.puts_of(line)]
+    if not puts:
+        raise texts.BadText(f"{script}: no line is a POKE or a WORDS line")
     before = None
-    for line in texts.read(script):
-        for put in texts.puts_of(line):
-            if put.place != before:
-                print(place_name(put.place))
-                before = put.place
-            print(f"  {put.address:06o}  {put.word:012o}  {names.instruction(put.word)}")
+    for put in puts:
+        if put.place != before:
+            print(place_name(put.place))
+            before = put.place
+        print(f"  {put.address:06o}  {put.word:012o}  {names.instruction(put.word)}")
 
 
 class Memory:
@@ -101,7 +105,9 @@ def main(words):
         sys.exit(__doc__)
     try:
         command(*words[1:])
-    except (OSError, UnicodeError, texts.BadText) as error:
+    except OSError as error:
+        sys.exit(f"view.py: {error.filename}: {error.strerror}")
+    except (UnicodeError, texts.BadText) as error:
         sys.exit(f"view.py: {error}")
 
 
