@@ -70,7 +70,7 @@ refused 'filed.script has neither a POKE nor a START line, so the program has no
 echo 'POKE 0 2000 1' >>filed.script
 refused 'filed.script has no START line, and its program is in a file, which run-mac does not change' begins.mac filed.script
 for words in '' --help --script 'begins.mac 101 1 1' 'begins.mac begins.script 1'; do
-    # shellcheck disable=SC2086
+    # shellcheck disable=SC2086 # the words of a command are separate arguments
     shows '' 1 $words
     grep -q '^usage: run-mac ' messages || fail "the words '$words': no usage, but '$(cat messages)'"
 done
