@@ -89,6 +89,9 @@ screen = typed.replace("\\015\\012", "\n")
 shown = re.search(r"^    @directory.*?(?=\n\n)", readme, re.M | re.S)[0]
 if "\n".join(line[4:34].rstrip() for line in shown.split("\n")) not in screen:
     fail("README.md does not show what terminal 0 shows in examples/session.transcript")
+lines = re.search(r"^    LOGIN.*?\n(?=\n)", readme, re.M | re.S)[0].replace("\n    ", "\n")[4:]
+if lines not in text_of("examples/session.script"):
+    fail("README.md has other lines of a script than examples/session.script")
 
 # what the lessons quote
 for lesson in text_of("docs/LESSONS.md").split("\n## ")[1:]:

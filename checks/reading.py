@@ -2,15 +2,18 @@
 
 A definition reaches each name that it uses: of its own file, or of a file of specs that its file takes the name from. The types and
 constants of the code (`declared`) are counted, and end the way. What the headline of `big` adds is told beside it. Status 1: the document
-says otherwise, and what differs was printed. docs/book/make.py prints what both reach.
+says otherwise, and what differs was printed. docs/book/make.py prints what both reach, and the promise of a terminal beside others.
 """
 import collections
 import glob
 import re
 import sys
 
+# What the clause `headline` names.
 HEADLINE = (("tenex_console", "Headline"), "HasHeadline")
+SEEN = (("tenex_console", "Observed"), "seen")
 OF_BIG = (("tenex_console", "Headline"), "RunsGenerated")
+BESIDE_OTHERS = (("tenex_console", "Isolation"), "HasIsolation")
 WORD = re.compile(r"[A-Za-z_◌][A-Za-z0-9_'◌]*|[^\sA-Za-z0-9_(){}\[\],.;:\"']+")
 TAKES = re.compile(r"use Rattle\.([a-z0-9_]+)\.specs\.([A-Za-z0-9_.]+?)(?:\.\{(.*)\}| as (\S+))?\s*$")
 MARKS = r"(?:abbrev |unfoldable |pub |record |data )"
@@ -157,10 +160,10 @@ def uses_of(files, place):
     return uses, declared
 
 
-def reach(files, left_out=()):
-    """What each definition uses that the headline reaches, but for some definitions."""
+def reach(files, left_out=(), heads=(HEADLINE, SEEN)):
+    """What each definition uses that the headline, or other heads, reach, but for some definitions."""
     reached = {}
-    todo = [HEADLINE]
+    todo = [*heads]
     while todo:
         place = todo.pop()
         if place not in reached and place not in left_out:

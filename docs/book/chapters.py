@@ -1,4 +1,5 @@
 """The chapters, and the entries in them: definitions, types and constants, each with its number and with what it uses."""
+import os
 import re
 import sys
 
@@ -19,6 +20,7 @@ class Entry:
         self.within = []
         self.is_constant = False
         self.is_code = False
+        self.is_clause = False
         self.number = None
         self.pieces = []
         self.uses = []
@@ -26,12 +28,13 @@ class Entry:
 
 
 class Part:
-    """A file of a chapter: of specs, or a module of the code. It says what it is about."""
+    """A file of a chapter: of specs, or a module of the code, of which a clause may be wanted alone. It says what it is about."""
 
-    def __init__(self, crate, is_code, name):
+    def __init__(self, crate, is_code, name, clause=None):
         self.crate = crate
         self.is_code = is_code
         self.name = name
+        self.clause = clause
         self.path = f"crates/{crate}/{f'src/{name}.rt' if is_code else f'specs/{name}.antt'}"
         self.about = ""
         self.entries = []
@@ -45,8 +48,9 @@ class Chapter:
 
 
 class Book:
-    def __init__(self, chapters, from_std):
+    def __init__(self, chapters, from_std, shares):
         self.chapters = chapters
+        self.shares = shares
         self.entries = [entry for chapter in chapters for part in chapter.parts for entry in part.entries]
         self.from_std = from_std
 
@@ -58,10 +62,13 @@ def read_chapters(path):
         lines = [line.rstrip("\n") for line in file if not line.startswith("#")]
     for line in lines:
         files = re.fullmatch(r"(\w+)( code)?: ([\w ]+)", line)
+        clause = re.fullmatch(r"(\w+) clause: (\w+) (\w+)", line)
         if line.startswith("== "):
             chapters.append(Chapter(line[3:]))
         elif files:
             chapters[-1].parts += [Part(files[1], bool(files[2]), name) for name in files[3].split()]
+        elif clause:
+            chapters[-1].parts.append(Part(clause[1], True, clause[2], clause[3]))
         elif line.strip():
             chapters[-1].paragraph += (" " if chapters[-1].paragraph else "") + line.strip()
     return chapters
@@ -95,6 +102,21 @@ def items_of(all_code, wanted, crate, module):
             yield entry
 
 
+def clause_of(part):
+    """The clause of a function, with the comment above it, and the names that its file takes."""
+    file, comment = reading.File(os.devnull), []
+    with open(part.path, encoding="utf-8") as text:
+        for line in map(str.strip, text):
+            if line.startswith("ghost use "):
+                file.take_use(line.removeprefix("ghost ").removesuffix(";"))
+            if line.startswith(f"ensures {part.clause} "):
+                entry = Entry((part.path, part.clause), f"ensures {part.clause}", " ".join(comment), [line])
+                entry.is_code, entry.is_clause, entry.file = True, True, file
+                return entry
+            comment = [*comment, line[2:].strip()] if line.startswith("//") else []
+    sys.exit(f"make.py: {part.path} has no clause {part.clause}")
+
+
 class Names:
     """Which entry a name in a file stands for."""
 
@@ -119,6 +141,9 @@ class Names:
             return self.of_place.get((place[0], place[2]))
         file = self.files.get((crate, other))
         return self.of_place.get(((crate, other), file.named(name))) if file and file.named(name) else None
+
+    def in_clause(self, file, name):
+        return self.taken(*file.taken[name]) if name in file.taken else None
 
     def in_code(self, item, name):
         imports = self.code.imports[item.place[0], item.module]
@@ -154,7 +179,9 @@ def pieces_of(line, entry, meaning):
 def link(entries, names):
     """Gives each entry the pieces of its lines, and tells each who uses it."""
     for entry in entries:
-        if entry.is_code:
+        if entry.is_clause:
+            meaning = lambda owner, name, file=entry.file: None if owner else names.in_clause(file, name)
+        elif entry.is_code:
             item = names.code.items[entry.place]
             meaning = lambda owner, name, item=item: None if owner else names.in_code(item, name)
         else:
@@ -190,7 +217,7 @@ def fill(part, files, reached, all_code, wanted):
     """Gives a part its entries, and what it is about."""
     if part.is_code:
         part.about = all_code.abouts[part.crate, part.name]
-        part.entries = list(items_of(all_code, wanted, part.crate, part.name))
+        part.entries = [clause_of(part)] if part.clause else list(items_of(all_code, wanted, part.crate, part.name))
     else:
         part.about = plain_comment(files[part.crate, part.name].about)
         part.entries = list(definitions_of(files, reached, part.crate, part.name))
@@ -199,7 +226,10 @@ def fill(part, files, reached, all_code, wanted):
 def read(path):
     """The whole book."""
     files = reading.read_files()
-    reached = reading.reach(files)
+    heads = (reading.HEADLINE, reading.SEEN, reading.BESIDE_OTHERS)
+    reached = reading.reach(files, heads=heads)
+    of_run, of_both = set(reading.reach(files, (reading.OF_BIG,))), set(reading.reach(files))
+    shares = [(len(places), reading.lines_of(files, places)) for places in (of_run, of_both - of_run, set(reached) - of_both)]
     all_code = code_items.Code()
     wanted = all_code.reach({(crate, name) for _, declared in reached.values() for crate, _, name in declared})
     chapters = read_chapters(path)
@@ -208,7 +238,7 @@ def read(path):
             fill(part, files, reached, all_code, wanted)
         for place, entry in enumerate((entry for part in chapter.parts for entry in part.entries), 1):
             entry.number = f"{number}.{place}"
-    book = Book(chapters, names_of_std(files, reached))
+    book = Book(chapters, names_of_std(files, reached), shares)
     complain({entry.place for entry in book.entries}, set(reached), wanted, all_code)
     link(book.entries, Names(files, all_code, book.entries))
     return book

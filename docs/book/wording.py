@@ -5,8 +5,9 @@ MOST_USERS = 8
 
 HOW_TO_READ = [
     "This book has every definition that one reads to know what is promised of tenex: that the transcript of a run is that of a plain "
-    "machine, and the record its entries. It has no proof and no code but for the types and constants that the definitions name. "
-    "The first chapter is the promise; the others give its words their meaning.",
+    "machine, and the record its entries. The last chapter is another promise, of a terminal beside others. There is no proof in it, "
+    "and no code but for the types and constants that the definitions name, and the two clauses that give the promises. "
+    "The first chapter is the headline; those between give its words their meaning.",
     "A definition begins with its type, and then has a line for each case. A record lists what holds together; its fields have names. "
     "A name whose type ends in Type 0 is a statement, or a kind of things. \u2261 is equality, \u00d7 is and, \u228e is or, \u22a5 is what never "
     "holds, and an arrow from a statement to another is if. (x : A) \u00d7 B says that there is an x with B, and (x : A) \u2192 B that each x has B. "
@@ -24,9 +25,13 @@ def preface(book):
 
 
 def counts(book):
+    """How many definitions there are, and for which promise."""
     definitions = [entry for entry in book.entries if not entry.is_code]
     lines = sum(1 for entry in definitions for line in entry.lines if not line.lstrip().startswith("--"))
-    return f"{len(definitions)} definitions of {lines} lines, and {len(book.entries) - len(definitions)} types and constants."
+    items = sum(1 for entry in book.entries if entry.is_code and not entry.is_clause)
+    run, big, alone = (f"{count} of {lines_of} lines" for count, lines_of in book.shares)
+    return (f"{len(definitions)} definitions of {lines} lines, and {items} types and constants. Of the definitions {run} are what the headline "
+            f"of the command run rests on, {big} are more for the command big, and {alone} more for a terminal beside others.")
 
 
 def place(entry):
