@@ -14,11 +14,11 @@ pub record MakesAtMost {P : Type 0} (means : PagesMeaning P) (owner : Tty) (page
   pub serial : means.serial new owner ≤ means.serial old owner + pages
   pub serials : (t : Tty) → t ≢ owner → means.serial new t ≡ means.serial old t
 
--- one at most, and none where something was needed first
+-- one at most; and where something was needed first pages are as they were
 abbrev pub MakesOne : {P A : Type 0} → PagesMeaning P → Tty → P → P → Result A Need → Type 0
 MakesOne means owner old new (Ok done) = MakesAtMost means owner 1 old new
-MakesOne means owner old new (Err n) = MakesAtMost means owner 0 old new
+MakesOne means owner old new (Err n) = new ≡ old
 
 abbrev pub MakesIn : {P : Type 0} → PagesMeaning P → Tty → P → P → Answer → Type 0
-MakesIn means owner old new (answer.Need n) = MakesAtMost means owner 0 old new
+MakesIn means owner old new (answer.Need n) = new ≡ old
 MakesIn means owner old new a = MakesAtMost means owner 1 old new

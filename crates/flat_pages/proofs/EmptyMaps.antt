@@ -132,7 +132,7 @@ module _ {S : Type 0} (store : StoreMeaning S) (k : ℕ) where
     limit = refl;
     rest = λ page l. refl;
     homes = λ home. inl (refl, refl);
-    frames = λ none. refl;
+    untouched = λ none. refl;
     core = same_core _;
     lost = loses_nothing (traffic store old);
     used = keeps_frames (traffic store old);
@@ -154,7 +154,7 @@ module _ {S : Type 0} (store : StoreMeaning S) (k : ℕ) where
     rest = λ j l. ap (λ (ms : List HeldMap). held_entry ms (record { map = k; page = j })) sets.maps
         ∙ entry_other maps at Empty (record { map = k; page = j }) (λ e. (let same : j ≡ page = ap (λ (x : EntryAt). x.page) e in absurd (omega (arith, same, l)))) ∙ so_far.rest j (omega (arith, l));
     homes = λ home. stays_on (so_far.homes home) (sets.homes home) (named_first home);
-    frames = λ none. sets.frames (λ home named. none home (named_first home named)) ∙ so_far.frames none;
+    untouched = λ none. sets.untouched (λ home named. none home (named_first home named)) ∙ so_far.untouched none;
     core = core_on so_far.core sets.core;
     lost = loses_on (traffic store old) (traffic store now) (traffic store new) so_far.lost sets.lost;
     used = none_on (traffic store old) (traffic store now) (traffic store new) so_far.used sets.used;

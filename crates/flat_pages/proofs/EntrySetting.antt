@@ -56,12 +56,12 @@ module _ {S : Type 0} (store : StoreMeaning S) (old new : S) (sound_old : IsSoun
       → entry_of t'.names e ≡ entry_of t.names e
       → ((d : DrumWords) → FitsHomes t.places d → FitsHomes t'.places d)
       → ((home : ℕ) → HomeStays t t' home (NamesHome t.maps at home))
-      → (((home : ℕ) → NamesHome t.maps at home → ⊥) → store.spare new ≡ store.spare old)
+      → (((home : ℕ) → NamesHome t.maps at home → ⊥) → new ≡ old)
       → StaysInCore (scene_of t (store.spare old)) (scene_of t' (store.spare new)) 0
       → Loses (traffic store old) (traffic store new)
       → RenewsNone (traffic store old) (traffic store new)
       → SetsEntry store old new tables tables' at e
-  sets_entry a a' there maps files filed serials living limit names words others same fits homes frames core lost used = record {
+  sets_entry a a' there maps files filed serials living limit names words others same fits homes untouched core lost used = record {
     told = λ d s is fit. (
       fits d fit,
       told_set t t' a a' d (sized_of t.places d fit sound_old.pages) (sized_of t'.places d (fits d fit) sound_new.pages) names (words d) serials limit s (entry_of t.names q) (entry_of t.names e)
@@ -75,7 +75,7 @@ module _ {S : Type 0} (store : StoreMeaning S) (old new : S) (sound_old : IsSoun
     living = living;
     limit = limit;
     homes = homes;
-    frames = frames;
+    untouched = untouched;
     core = core;
     lost = lost;
     used = used;
@@ -112,7 +112,7 @@ module _ {S : Type 0} (store : StoreMeaning S) (old new : S) (sound_old : IsSoun
           (ap (λ ns. entry_of ns e) names_are)
           (λ d fit. subst (λ ps. FitsHomes ps d) (sym places_are) fit)
           (λ home. inl (ap (λ ps. place ps home) places_are, ap (λ ns. name_at ns home) names_are))
-          (λ none. ap store.spare same_store)
+          (λ none. same_store)
           (subst (λ (x : Scene). StaysInCore (scene_of t (store.spare old)) x 0) (sym scenes) (same_core (scene_of t (store.spare old))))
           (subst (λ (x : S). Loses (traffic store old) (traffic store x)) (sym same_store) (loses_nothing (traffic store old)))
           (subst (λ (x : S). RenewsNone (traffic store old) (traffic store x)) (sym same_store) (keeps_frames (traffic store old)))

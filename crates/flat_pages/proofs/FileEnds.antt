@@ -230,7 +230,7 @@ module _ {S : Type 0} (store : StoreMeaning S) (old now new : S) (tables then_ta
     living = sets.living ∙ emptied.living;
     limit = sets.limit ∙ emptied.limit;
     homes = λ k. stays_on (emptied.homes k) (sets.homes k) (λ now. absurd (nothing_named k now));
-    frames = λ none. sets.frames nothing_named ∙ emptied.frames none;
+    untouched = λ none. sets.untouched nothing_named ∙ emptied.untouched none;
     core = core_on emptied.core sets.core;
     lost = loses_on (traffic store old) (traffic store now) (traffic store new) emptied.lost sets.lost;
     used = none_on (traffic store old) (traffic store now) (traffic store new) emptied.used sets.used;

@@ -262,7 +262,7 @@ module _ {S : Type 0} (store : StoreMeaning S) (old new : S) (sound_old : IsSoun
             (ap (λ ns. entry_of ns (Page h b)) names_are)
             (λ d fit. subst (λ ps. FitsHomes ps d) (sym places_are) fit)
             (λ k. inl (ap (λ ps. place ps k) places_are, ap (λ ns. name_at ns k) names_are))
-            (λ none. ap store.spare same)
+            (λ none. same)
             (subst (λ (x : Scene). StaysInCore (scene_of v (store.spare old)) x 0) (sym scenes) (same_core (scene_of v (store.spare old))))
             (subst (λ (x : S). Loses (traffic store old) (traffic store x)) (sym same) (loses_nothing (traffic store old)))
             (subst (λ (x : S). RenewsNone (traffic store old) (traffic store x)) (sym same) (keeps_frames (traffic store old))),

@@ -21,7 +21,7 @@ use Rattle.flat_tables.specs.SlotTouches.{scene_of}
 use Rattle.flat_tables.specs.TableSteps.{fork_begun, fork_ended, tables_of}
 use Rattle.flat_tables.proofs.Beginning.{AreNew, index_begun, others_live, own_lives, scene_begun, serials_begun, told_begun, unnamed_begun, who_lives}
 use Rattle.flat_pages.proofs.ForkEnds.{ended_agrees, fork_core, fork_drops, fork_lives, fork_other, fork_own}
-use Rattle.flat_pages.proofs.MapHomes.{adds_map, drops_map}
+use Rattle.flat_pages.proofs.MapHomes.{adds_map, drops_map, no_page, untouched_beside}
 
 module _ {P S : Type 0} (store : StoreMeaning S) (part : P → S) (mt : P → MapTables) (p q : P) (a : AreTables (tables_of (store.homes (part p)) (mt p))) (f : ForkName) where
   abbrev tables : P → Tables
@@ -47,6 +47,8 @@ module _ {P S : Type 0} (store : StoreMeaning S) (part : P → S) (mt : P → Ma
       uses = subst (λ x. RenewsNone (traffic store (part p)) (traffic store x)) (sym same) (keeps_frames (traffic store (part p)));
       adds = adds_map store part tables p q f (ap store.homes same) (ap (λ (x : Tables). x.names) is) (ap (λ (x : Tables). x.files) is) k
           (index_begun t a k f unlived from below terminal absent room entries new (tables q) is) (unnamed_begun t a k f unlived from below terminal absent room entries new (tables q) is);
+      own = λ home some. absurd (cc some);
+      beside = untouched_beside store part tables p q f same;
       lives = who_lives t a k f unlived from below terminal absent room entries new (tables q) is;
       forks = own_lives t a k f unlived from below terminal absent room entries new (tables q) is;
       others = others_live t a k f unlived from below terminal absent room entries new (tables q) is;
@@ -74,8 +76,12 @@ module _ {P S : Type 0} (store : StoreMeaning S) (part : P → S) (mt : P → Ma
       loses = subst (λ x. Loses (traffic store (part p)) (traffic store x)) (sym same) empties.lost;
       uses = subst (λ x. RenewsNone (traffic store (part p)) (traffic store x)) (sym same) empties.used;
       drops = drops_map store part tables p q f a (subst AreTables (sym are) agrees) k index refl refl
-          (λ home. subst (λ (x : Tables). HomeStays t x home (MapNames t.maps k home)) (sym (are ∙ ended (store.homes mid))) (empties.homes home)) (λ none. ap store.spare same ∙ empties.frames none)
+          (λ home. subst (λ (x : Tables). HomeStays t x home (MapNames t.maps k home)) (sym (are ∙ ended (store.homes mid))) (empties.homes home)) (λ none. ap store.spare (same ∙ empties.untouched none))
           (ap (λ (x : Tables). fin.get (files_held x.names x.files)) (are ∙ ended (store.homes mid)) ∙ ap fin.get empties.filed);
+      bare = λ none quiet. record {
+        own = λ home is. absurd (cc is);
+        beside = untouched_beside store part tables p q f (same ∙ empties.untouched (no_page store part tables p q f a k index none));
+      };
       lives = fork_lives store (part p) mid (mt p) then_tables k f index empties agree (mt q) ended;
       forks = fork_own store (part p) mid (mt p) then_tables k f index empties agree (mt q) ended;
       others = fork_other store (part p) mid (mt p) then_tables k f index empties agree (mt q) ended;

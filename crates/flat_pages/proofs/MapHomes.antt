@@ -13,6 +13,7 @@ use Rattle.machine_names.specs.declared.names.Slot.{Slot}
 use Rattle.page_homes.specs.declared.homes.Home.{Home}
 use Rattle.plain_pages.specs.declared.map.MapEntry.TheVariants.{Names}
 use Rattle.page_contracts.specs.declared.answers.Seen.TheVariants.{Is}
+use Rattle.page_contracts.specs.Changes.{StaysBeside}
 use Rattle.page_contracts.specs.Pages.{AddsMap, DropsFile, DropsMap, EntryNames, FileNames, IsOfFile, IsOfMap, NamesPage, PagesMeaning, SetsEntry, SetsFile, SettlesHome, StandsAt}
 use Rattle.page_contracts.specs.Stores.{StoreMeaning, free, is_here, place}
 use Rattle.flat_tables.specs.declared.held_entry.HeldEntry.{HeldEntry}
@@ -109,6 +110,25 @@ module _ {P S : Type 0} (store : StoreMeaning S) (part : P → S) (tables : P �
       | inl same ↦ inl (ap (λ ps. place ps home) new_homes ∙ same.0 ∙ sym (ap (λ ps. place ps home) old_homes))
       | inr given ↦ inr (ap (λ ps. place ps home) new_homes ∙ given.0, given.2)
     ]
+
+  -- a store that is as it was
+  pub untouched_beside : part new ≡ part old → StaysBeside means old new
+  untouched_beside same = record {
+    queued = record { queue = ap store.queue same; untold = ap store.untold same };
+    holds = ap store.holds same;
+  }
+
+  -- where a map names no page, none of its entries has one
+  module _ (a : AreTables t) (k : ℕ) (index : index_of t.maps f ≡ Some k) where
+    pub no_page : ((n : PageName) → NamesPage means old f n → ⊥) → (home : ℕ) → MapNames t.maps k home → ⊥
+    no_page none home m =
+        let n = entry_named t a (record { map = k; page = m.page }) (record { 0 = home }) m.there.access m.there.is in
+        none n.0 (record {
+          page = m.page;
+          access = m.there.access;
+          is = ap (λ (o : Option ℕ). seen_entry t (option_and_then (λ j. held_entry t.maps (record { map = j; page = m.page })) o)) index
+              ∙ ap (seen_entry t) m.there.is ∙ ap (λ (o : Option PageName). Is (Names (unwrap_or o nobody) m.there.access)) n.1;
+        })
 
   -- a map went
   module _ (a : AreTables t) (a' : AreTables u) (k : ℕ) (index : index_of t.maps f ≡ Some k) (old_homes : store.homes (part old) ≡ t.places) (new_homes : store.homes (part new) ≡ u.places)

@@ -51,7 +51,7 @@ pub record EmptiesMap {S : Type 0} (store : StoreMeaning S) (old new : S) (table
   pub limit : tables'.limit ≡ tables.limit
   pub rest : (page : ℕ) → pages ≤ page → held_entry tables'.maps.held.items (record { map = k; page = page }) ≡ held_entry tables.maps.held.items (record { map = k; page = page })
   pub homes : (home : ℕ) → HomeStays (tables_of (store.homes old) tables) (tables_of (store.homes new) tables') home (MapNames tables.maps.held.items k home)
-  pub frames : ((home : ℕ) → MapNames tables.maps.held.items k home → ⊥) → store.spare new ≡ store.spare old
+  pub untouched : ((home : ℕ) → MapNames tables.maps.held.items k home → ⊥) → new ≡ old
   pub core : StaysInCore (scene_of (tables_of (store.homes old) tables) (store.spare old)) (scene_of (tables_of (store.homes new) tables') (store.spare new)) 0
   pub lost : Loses (traffic store old) (traffic store new)
   pub used : RenewsNone (traffic store old) (traffic store new)

@@ -39,7 +39,7 @@ Stays old new old_name new_name named = ((new ≡ old) × (new_name ≡ old_name
 abbrev pub HomeStays : Tables → Tables → ℕ → Type 0 → Type 0
 HomeStays t t' home named = Stays (place t.places home) (place t'.places home) (name_at t.names home) (name_at t'.names home) named
 
--- an entry was set: what no entry names any more was given up, and nothing has left its frame
+-- an entry was set: what no entry names any more was given up, and nothing has left its frame; where it named no page the store is as it was
 pub record SetsEntry {S : Type 0} (store : StoreMeaning S) (old new : S) (tables tables' : MapTables) (at : EntryAt) (e : HeldEntry) : Type 0 where
   pub told : (d : DrumWords) (s : Slot) → slot_of tables.maps.held.items at ≡ Some s → FitsHomes (store.homes old) d
       → FitsHomes (store.homes new) d × (plain_of (tables_of (store.homes new) tables') d ≡ entry_put (plain_of (tables_of (store.homes old) tables) d) s (entry_of tables.names.items e))
@@ -50,7 +50,7 @@ pub record SetsEntry {S : Type 0} (store : StoreMeaning S) (old new : S) (tables
   pub living : tables'.living ≡ tables.living
   pub limit : tables'.limit ≡ tables.limit
   pub homes : (home : ℕ) → HomeStays (tables_of (store.homes old) tables) (tables_of (store.homes new) tables') home (NamesHome tables.maps.held.items at home)
-  pub frames : ((home : ℕ) → NamesHome tables.maps.held.items at home → ⊥) → store.spare new ≡ store.spare old
+  pub untouched : ((home : ℕ) → NamesHome tables.maps.held.items at home → ⊥) → new ≡ old
   pub core : StaysInCore (scene_of (tables_of (store.homes old) tables) (store.spare old)) (scene_of (tables_of (store.homes new) tables') (store.spare new)) 0
   pub lost : Loses (traffic store old) (traffic store new)
   pub used : RenewsNone (traffic store old) (traffic store new)

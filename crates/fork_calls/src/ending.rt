@@ -2,6 +2,7 @@
 ghost use Rattle.std.specs.Prelude.{◌≡◌, ℕ, true, None};
 ghost use Rattle.plain_model.specs.declared.call.End.{End as AnEnd};
 ghost use Rattle.plain_model.specs.declared.call.ForkChange.{ForkChange as AForkChange};
+ghost use Rattle.page_contracts.specs.declared.answers.Need.{Need as ANeed};
 ghost use Rattle.plain_units.specs.declared.registers.Regs.{Regs as ARegs};
 ghost use Rattle.call_turns.specs.Answers.{AnswerNeeds, IsDone, answer_of as answer_to, HasRegs};
 ghost use Rattle.call_turns.specs.Turns.{IsRegs, FitsEnd};
@@ -47,6 +48,7 @@ pub fn end<P: Pages>(
     ensures told { (regs : ARegs) → Turned P.means pages.old pages.new tree.old tree.new result (whole (asked who regs tree.old) (AFirstStep.Ends ending)) }
     ensures needs { AnswerNeeds P.means.store 1 pages.new result }
     ensures core { P.means.flat ≡ true → IsDone result }
+    ensures unmade { (n : ANeed) → result ≡ Answer.Need n → pages.new ≡ pages.old }
     ensures leaves { CallLeaves P.means pages.old pages.new tree.old tree.new who 0 }
     ensures failed { (code : ℕ) → ending ≡ AnEnd.Failed code → tree.new ≡ tree.old }
     ensures regs { HasRegs result }

@@ -1,5 +1,5 @@
 // An inferior is killed, with all below it.
-ghost use Rattle.std.specs.Prelude.{◌≡◌, IfErr, IsOk, true};
+ghost use Rattle.std.specs.Prelude.{◌≡◌, IfErr, IsOk, OnErr, true};
 ghost use Rattle.plain_model.specs.declared.call.ForkChange.{ForkChange as AForkChange};
 ghost use Rattle.page_contracts.specs.Stores.{IsNeeded};
 ghost use Rattle.job_forks.specs.Asking.{IsBelow};
@@ -23,6 +23,7 @@ pub fn kill<P: Pages>(
     requires holds { Holds P.means pages.old tree.old.forks }
     ensures told { ChangesIf P.means pages.old pages.new tree.old tree.new result (AForkChange.Kill name) }
     ensures needs { IfErr result (IsNeeded P.means.store 1 pages.new) }
+    ensures stopped { OnErr result (pages.new ≡ pages.old) }
     ensures core { P.means.flat ≡ true → IsOk result }
     ensures leaves { CallLeaves P.means pages.old pages.new tree.old tree.new who 0 }
 {

@@ -17,7 +17,7 @@ ghost use Rattle.ka10_unit.specs.Taking.{IsTrap, StopNeeds, read_frames};
 ghost use Rattle.fork_tree.specs.Making.{AddsLast, slot_for};
 ghost use Rattle.job_forks.specs.Asking.{asked};
 ghost use Rattle.fork_calls.specs.Blocks.{TookAccumulators};
-ghost use Rattle.job_forks.specs.Holding.{CallLeaves, Holds, MakesPages};
+ghost use Rattle.job_forks.specs.Holding.{CallLeaves, Holds, PlansOnly};
 ghost use Rattle.fork_calls.specs.Needing.{making_frames};
 ghost use Rattle.fork_calls.specs.Steps.{begun, second_regs, whole};
 ghost use Rattle.fork_calls.specs.Turning.{Turned};
@@ -153,7 +153,7 @@ pub fn make<P: Pages>(
     ensures told { Turned P.means pages.old pages.new tree.old tree.new result (whole (asked who regs.now tree.old) (AFirstStep.Makes slot)) }
     ensures needs { AnswerNeeds P.means.store making_frames pages.new result }
     ensures core { P.means.flat ≡ true → IsDone result }
-    ensures unmade { (n : ANeed) → result ≡ Answer.Need n → MakesPages P.means who.tty 0 pages.old pages.new }
+    ensures unmade { (n : ANeed) → result ≡ Answer.Need n → PlansOnly P.means who.tty pages.old pages.new }
     ensures leaves { CallLeaves P.means pages.old pages.new tree.old tree.new who 128 }
     ensures adds { AddsLast who.tty tree.old tree.new }
     ensures regs { HasRegs result }

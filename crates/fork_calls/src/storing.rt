@@ -10,7 +10,7 @@ ghost use Rattle.ka10_unit.specs.Gathers.{Serves};
 ghost use Rattle.ka10_unit.specs.Taking.{most_frames, read_frames};
 ghost use Rattle.fork_tree.specs.Trees.{Lives};
 ghost use Rattle.job_forks.specs.Asking.{IsBelow, asked};
-ghost use Rattle.job_forks.specs.Holding.{CallLeaves, Holds, MakesPages};
+ghost use Rattle.job_forks.specs.Holding.{CallLeaves, Holds, PlansOnly};
 ghost use Rattle.fork_calls.specs.Steps.{whole};
 ghost use Rattle.fork_calls.specs.Turning.{Turned};
 ghost use Rattle.fork_calls.specs.declared.step.FirstStep.{FirstStep as AFirstStep};
@@ -67,7 +67,7 @@ pub fn set_accumulators<P: Pages>(
     ensures told { Turned P.means pages.old pages.new tree.old tree.new result (whole (asked who regs.now tree.old) (AFirstStep.Sets fork)) }
     ensures needs { AnswerNeeds P.means.store read_frames pages.new result }
     ensures core { P.means.flat ≡ true → IsDone result }
-    ensures unmade { (n : ANeed) → result ≡ Answer.Need n → MakesPages P.means who.tty 0 pages.old pages.new }
+    ensures unmade { (n : ANeed) → result ≡ Answer.Need n → PlansOnly P.means who.tty pages.old pages.new }
     ensures leaves { CallLeaves P.means pages.old pages.new tree.old tree.new who 128 }
     ensures regs { HasRegs result }
 {
@@ -99,7 +99,7 @@ pub fn store_accumulators<P: Pages>(
     ensures told { Turned P.means pages.old pages.new tree.now tree.now result (whole (asked who regs.now tree.now) (AFirstStep.Stores fork)) }
     ensures needs { AnswerNeeds P.means.store most_frames pages.new result }
     ensures core { P.means.flat ≡ true → IsDone result }
-    ensures unmade { (n : ANeed) → result ≡ Answer.Need n → MakesPages P.means who.tty 0 pages.old pages.new }
+    ensures unmade { (n : ANeed) → result ≡ Answer.Need n → PlansOnly P.means who.tty pages.old pages.new }
     ensures leaves { CallLeaves P.means pages.old pages.new tree.now tree.now who 128 }
     ensures regs { HasRegs result }
 {

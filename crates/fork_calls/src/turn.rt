@@ -8,7 +8,7 @@ ghost use Rattle.page_contracts.specs.declared.answers.Need.{Need as ANeed};
 ghost use Rattle.call_turns.specs.Answers.{AnswerNeeds, IsDone, HasRegs};
 ghost use Rattle.call_turns.specs.Turns.{IsRegs};
 ghost use Rattle.job_forks.specs.Asking.{asked};
-ghost use Rattle.job_forks.specs.Holding.{CallLeaves, Holds, MakesPages};
+ghost use Rattle.job_forks.specs.Holding.{CallLeaves, Holds, PlansOnly};
 ghost use Rattle.job_forks.specs.Limits.{AreWithin};
 ghost use Rattle.fork_calls.specs.Needing.{call_frames};
 ghost use Rattle.fork_calls.specs.Turning.{Turned};
@@ -43,7 +43,7 @@ pub fn call<P: Pages>(
     ensures told { Turned P.means pages.old pages.new tree.old tree.new result (fork_call number (asked who regs.now tree.old)) }
     ensures needs { AnswerNeeds P.means.store call_frames pages.new result }
     ensures core { P.means.flat ≡ true → IsDone result }
-    ensures unmade { (n : ANeed) → result ≡ Answer.Need n → MakesPages P.means who.tty 0 pages.old pages.new }
+    ensures unmade { (n : ANeed) → result ≡ Answer.Need n → PlansOnly P.means who.tty pages.old pages.new }
     ensures leaves { CallLeaves P.means pages.old pages.new tree.old tree.new who 128 }
     ensures adds { number ≡ CFORK → AddsLast who.tty tree.old tree.new }
     ensures regs { HasRegs result }

@@ -14,6 +14,8 @@ use Rattle.machine_names.specs.Orders.{same_fork}
 use Rattle.plain_model.specs.Inferiors.{is_inferior}
 use Rattle.machine_names.specs.Bounds.{IsTerminal}
 use Rattle.page_contracts.specs.Pages.{PagesMeaning}
+use Rattle.page_contracts.specs.Stores.{StaysPlanned}
+use Rattle.page_contracts.proofs.Planning.{planned_still}
 use Rattle.plain_pages.specs.References.{without_fork}
 use Rattle.plain_pages.specs.PlainPages.{NumberedPages}
 use Rattle.plain_model.specs.Trees.{PlainTree, waiters_woken}
@@ -24,7 +26,7 @@ use Rattle.fork_tree.specs.Trees.{AreSlotted, IsTree, Lives}
 use Rattle.fork_tree.proofs.Killing.{killed_last}
 use Rattle.fork_tree.proofs.Leaves.{inferior_is}
 use Rattle.fork_tree.proofs.Upward.{ancestor_lives, any_ancestor}
-use Rattle.job_forks.specs.Holding.{Holds, MakesPages, parts}
+use Rattle.job_forks.specs.Holding.{Holds, MakesPages, PlansOnly, parts}
 use Rattle.job_forks.proofs.Places.{fewer_living, one_fewer, others_same}
 
 -- an inferior is younger
@@ -72,6 +74,13 @@ none_made means old new t serials most = record {
   most = most;
   serial = omega (arith, ap (λ (s : Tty → ℕ). s t) serials);
   serials = λ u ne. ap (λ (s : Tty → ℕ). s u) serials;
+}
+
+-- pages that are as they were
+pub plans_none : {P : Type 0} (means : PagesMeaning P) (old new : P) (t : Tty) → new ≡ old → PlansOnly means t old new
+plans_none means old new t same = record {
+  made = none_made means old new t (ap means.serial same) (ap means.most same);
+  planned = subst (StaysPlanned means.store old) (sym same) (planned_still means.store old);
 }
 
 pub made_on : {P : Type 0} (means : PagesMeaning P) (t : Tty) (m n : ℕ) (old mid new : P) → MakesPages means t m old mid → MakesPages means t n mid new → MakesPages means t (m + n) old new

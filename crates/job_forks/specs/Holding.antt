@@ -10,6 +10,7 @@ use Rattle.plain_model.specs.declared.fork.Fork.{Fork}
 use Rattle.plain_model.specs.Forks.{ForkMap, OthersStay, forks_by_slot}
 use Rattle.machine_names.specs.Bounds.{IsTerminal}
 use Rattle.page_contracts.specs.Pages.{PagesMeaning, MayLose}
+use Rattle.page_contracts.specs.Stores.{StaysPlanned}
 use Rattle.plain_pages.specs.PlainPages.{NumberedPages}
 use Rattle.plain_model.specs.ForkCalls.{ForkParts}
 use Rattle.plain_model.specs.Trees.{PlainTree, next_name}
@@ -64,6 +65,11 @@ pub record MakesPages {P : Type 0} (means : PagesMeaning P) (owner : Tty) (pages
   pub most : means.most new ≡ means.most old
   pub serial : means.serial new owner ≤ means.serial old owner + pages
   pub serials : (t : Tty) → t ≢ owner → means.serial new t ≡ means.serial old t
+
+-- what a call leaves that needs something first: it made no page, and its plan is no use of one
+pub record PlansOnly {P : Type 0} (means : PagesMeaning P) (owner : Tty) (old new : P) : Type 0 where
+  pub made : MakesPages means owner 0 old new
+  pub planned : StaysPlanned means.store old new
 
 -- what a call of a fork leaves of pages and forks, with so many pages made at most: they go together, each fork lived or is made, that fork and the top forks live
 -- on, and the forks of other jobs are as they were; and what is queued and held may have become less

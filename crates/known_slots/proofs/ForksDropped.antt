@@ -22,7 +22,7 @@ use Rattle.paged_tables.specs.PagedTouches.{scene_over}
 use Rattle.paged_tables.proofs.ForksEnded.{dropped_told}
 use Rattle.paged_tables.proofs.MapsSame.{forks_same}
 use Rattle.known_slots.proofs.ForksLeft.{left_core, left_lives, left_lost, left_others, left_own, left_uses}
-use Rattle.known_slots.proofs.MapsDropped.{drops_map}
+use Rattle.known_slots.proofs.MapsDropped.{drops_map, gives_up}
 
 module _ {P S : Type 0} (store : StoreMeaning S) (part : P → S) (beside : P → Beside) (old new : P) (fork : ForkName) (kept : AreKept (beside old) (store.homes (part old))) (kept' : AreKept (beside new) (store.homes (part new)))
     (sound : (s : S) → IsSound store s) (e : EndsFork store (part old) (part new) (beside old) (beside new) fork) where
@@ -73,6 +73,7 @@ module _ {P S : Type 0} (store : StoreMeaning S) (part : P → S) (beside : P �
     loses = left_lost store (part old) e.mid (part new) b b1 fork number SPACE_PAGES numbered e.empties freed;
     uses = left_uses store (part old) e.mid (part new) b b1 fork number SPACE_PAGES numbered e.empties freed;
     drops = drops_map store part beside old new fork kept kept' e (ap filed_over e.beside ∙ e.empties.filed);
+    bare = gives_up store part beside old new fork kept kept' e;
     lives = λ f. ap (λ (y : Beside). lives_in y f) e.beside ∙ left_lives b1 e.kept.rooted.numbered number fork own f ∙ ap (λ ms. not (same_fork f fork) && is_some (index_of ms f)) e.empties.maps;
     forks = ap (λ (y : Beside). forks_in y fork.tty + 1) e.beside ∙ left_own b1 e.kept.rooted.numbered number fork own ∙ ap (λ (forks : Tty → ℕ). forks fork.tty) (forks_same b b1 e.empties.maps);
     others = λ t ne. ap (λ (y : Beside). forks_in y t) e.beside ∙ left_others b1 e.kept.rooted.numbered number fork own t ne ∙ ap (λ (forks : Tty → ℕ). forks t) (forks_same b b1 e.empties.maps);

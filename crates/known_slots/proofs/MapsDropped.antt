@@ -1,7 +1,7 @@
 -- What is told of pages of which a fork with its map was dropped.
-use Rattle.std.proofs.Common.{◌≡◌, ◌≢◌, ◌⊎◌, inl, inr, ℕ, ◌+◌, ◌<◌, ◌≤◌, List, Bool, true, false, cond, Option, None, Some, is_some, length, refl, sym, ◌∙◌, ap, subst, arith}
-use Rattle.std.specs.Prelude.{◌||◌, slice_set}
-use Rattle.std.specs.List.{list_any}
+use Rattle.std.proofs.Common.{◌≡◌, ◌≢◌, ◌⊎◌, inl, inr, ℕ, ◌+◌, ◌<◌, ◌≤◌, List, Bool, true, false, cond, not, Option, None, Some, is_some, length, refl, sym, ◌∙◌, ap, subst, arith}
+use Rattle.std.specs.Prelude.{◌||◌, ◌==◌, slice_set}
+use Rattle.std.specs.List.{filter, list_any}
 use Rattle.std.specs.Option.{option_and_then, option_map, unwrap_or}
 use Rattle.std.proofs.lemmas.Bool.{cases_eq}
 use Rattle.std.proofs.lemmas.List.{get_or-set_same, get_or-set_other}
@@ -9,8 +9,10 @@ use Rattle.machine_names.specs.declared.names.ForkName.{ForkName}
 use Rattle.machine_names.specs.declared.names.PageName.{PageName}
 use Rattle.machine_names.specs.declared.names.Slot.{Slot}
 use Rattle.page_contracts.specs.declared.answers.Seen.TheVariants as seen
+use Rattle.page_contracts.specs.Changes.{GivesMapUp, IsQuiet}
 use Rattle.page_contracts.specs.Pages.{DropsMap, IsOfMap, NamesPage}
-use Rattle.page_contracts.specs.Stores.{HomePlace, StoreMeaning, arrives, away_at, away_home, free, is_here, place}
+use Rattle.page_contracts.specs.Stores.{HomePlace, StaysQueued, StoreMeaning, arrives, away_at, away_home, free, is_here, moves, place}
+use Rattle.page_contracts.proofs.Losing.{cancels_none, given_none, still_here}
 use Rattle.plain_pages.specs.declared.map.MapEntry.TheVariants.{Names}
 use Rattle.flat_tables.specs.SlotTouches.{home_named}
 use Rattle.flat_pages.proofs.Telling.{named_home}
@@ -163,3 +165,33 @@ module _ {P S : Type 0} (store : StoreMeaning S) (part : P → S) (beside : P �
 
   pub drops_map : filed_over (beside new) ≡ filed_over (beside old) → DropsMap (paged_slots store part beside) fork old new
   drops_map filed = record { homes = of_map; pages = page_stays; maps = map_same; away = away_same; frames = frames_are; filed = filed }
+
+  -- where it named no page, and no transfer moved it, it is given up alone
+  pub gives_up : ((n : PageName) → NamesPage (paged_slots store part beside) old fork n → ⊥) → ((home : ℕ) → map_home_over b fork ≡ Some home → IsQuiet (paged_slots store part beside) old home) → GivesMapUp (paged_slots store part beside) fork old new
+  gives_up none quiet = record {
+    own = λ home is. (let same : root ≡ home = (let z : Some root ≡ Some home = sym its_home ∙ is in cc z) in ap (place places') (sym same) ∙ root_free);
+    beside = record {
+      queued = record { queue = last.queue ∙ first.queue; untold = last.untold ∙ first.untold };
+      holds = λ i holder. holds_same holder i;
+    };
+  }
+    where
+      its_home : map_home_over b fork ≡ Some root
+      its_home = ap (option_map (λ k. (root_at b.tables.maps k).0)) e.frees.numbered
+
+      bare : (k : ℕ) → MapHas b places fork k → ⊥
+      bare k has = let n = named_page k has in none n.0 n.2
+
+      still : IsQuiet (paged_slots store part beside) old root
+      still = quiet root its_home
+
+      first : StaysQueued store (part old) e.mid
+      first = e.frees.still bare (still_here root (store.queue (part old)) still.unmoved)
+
+      last : StaysQueued store e.mid (part new)
+      last = cancels_none store (moves root) e.mid (part new) (ap (list_any (moves root)) first.queue ∙ still.unmoved) e.freed.cancelled
+
+      holds_same : (holder : ℕ) → store.holds (part new) holder ≡ store.holds (part old) holder
+      holds_same holder =
+          ap (λ (f : ℕ → List ℕ). f holder) e.freed.holds ∙ ap (λ (f : ℕ → List ℕ). filter (λ h. not (h == root)) (f holder)) (e.frees.holds bare)
+          ∙ given_none root (store.holds (part old) holder) (still.unheld holder)

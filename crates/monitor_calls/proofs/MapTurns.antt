@@ -26,7 +26,8 @@ use Rattle.file_tables.specs.Keys.{key_of, seen_in}
 use Rattle.pmap_calls.specs.Asking.{asked}
 use Rattle.call_turns.specs.Making.{MakesAtMost, MakesIn}
 use Rattle.ka10_unit.specs.Carrying.{Grows}
-use Rattle.job_forks.specs.Holding.{MakesPages}
+use Rattle.job_forks.specs.Holding.{PlansOnly}
+use Rattle.job_forks.proofs.Branch.{plans_none}
 use Rattle.monitor_calls.specs.declared.job.Job.{Job}
 use Rattle.monitor_calls.specs.declared.typing.Typing.{Typing}
 use Rattle.monitor_calls.specs.ForkUnit.{Tables, TurnedSo, parts_in, rest_of}
@@ -69,7 +70,14 @@ module _ {P : Type 0} (means : PagesMeaning P) (t : Tty) (old new : P) where
   most_grows pages few made loses = record { lives = made.lives; forks = made.forks; most = made.most; serial = omega (arith, made.serial); serials = made.serials; loses = loses }
 
   pub map_grows : (a : Answer) → MakesIn means t old new a → MayLose means old new → Grows means t most_makings old new
-  map_grows (answer.Need n) made loses = most_grows 0 (omega arith) made loses
+  map_grows (answer.Need n) same loses = record {
+    lives = ap means.lives same;
+    forks = ap means.forks_of same;
+    most = ap means.most same;
+    serial = omega (arith, ap (λ (s : P). means.serial s t) same);
+    serials = λ u ne. ap (λ (s : P). means.serial s u) same;
+    loses = loses;
+  }
   map_grows (answer.After regs out post) made loses = most_grows 1 (omega arith) made loses
   map_grows (answer.Wait on) made loses = most_grows 1 (omega arith) made loses
   map_grows answer.Halt made loses = most_grows 1 (omega arith) made loses
@@ -78,5 +86,5 @@ module _ {P : Type 0} (means : PagesMeaning P) (t : Tty) (old new : P) where
   map_grows (answer.Trap channel) made loses = most_grows 1 (omega arith) made loses
 
   -- and nothing where something is needed first
-  pub map_unmade : (a : Answer) (n : Need) → a ≡ answer.Need n → MakesIn means t old new a → MakesPages means t 0 old new
-  map_unmade a n is made = let none : MakesAtMost means t 0 old new = subst (MakesIn means t old new) is made in record { most = none.most; serial = none.serial; serials = none.serials }
+  pub map_unmade : (a : Answer) (n : Need) → a ≡ answer.Need n → MakesIn means t old new a → PlansOnly means t old new
+  map_unmade a n is made = plans_none means old new t (subst (MakesIn means t old new) is made)

@@ -10,7 +10,8 @@ use Rattle.plain_model.specs.declared.fork.Fork.{Fork}
 use Rattle.page_contracts.specs.declared.answers.Need.{Need}
 use Rattle.page_contracts.specs.DrumWords.{DrumWords}
 use Rattle.page_contracts.specs.Pages.{PagesMeaning}
-use Rattle.page_contracts.specs.Stores.{IsNeeded}
+use Rattle.page_contracts.specs.Stores.{IsNeeded, StaysPlanned}
+use Rattle.page_contracts.proofs.Planning.{planned_still}
 use Rattle.plain_pages.specs.PlainPages.{NumberedPages}
 use Rattle.plain_model.specs.Trees.{PlainTree, with_body}
 use Rattle.plain_model.proofs.ForkMaps.{put_itself}
@@ -70,6 +71,7 @@ pub record StopsBehind {P : Type 0} (means : PagesMeaning P) (old new : P) (was 
   pub keeps : Kept f g count
   pub leaves : LeavesForks means old new was.tree tree f count
   pub unmade : MakesPages means f.name.tty 0 old new
+  pub planned : count ≡ 0 → StaysPlanned means.store old new
   pub needed : IsNeeded means.store unit_frames new n
 
 module _ {P : Type 0} (means : PagesMeaning P) (old new : P) (was : Tables) (tree : PlainTree) (files : FileTables) (typed : List Typing) (f g : Fork) (n : Need) (lives : Lives was.tree.forks f) (unheld : AreUnheld (open_of was.files) was.jobs) (room : length was.typed ≡ TERMINALS) where
@@ -87,7 +89,7 @@ module _ {P : Type 0} (means : PagesMeaning P) (old new : P) (was : Tables) (tre
           );
     };
     leaves = s.leaves;
-    unmade = s.unmade;
+    unmade = record { made = s.unmade; planned = s.planned refl };
     needed = s.needed;
   }
 
@@ -149,7 +151,7 @@ made_less : {P : Type 0} {means : PagesMeaning P} {p q : P} {t : _} → Makes me
 made_less m = record { lives = m.lives; forks = m.forks; most = m.most; own = omega (arith, m.own); others = m.others }
 
 -- one fork has another body, behind so many units that made no page
-module _ (was : Tables) (is : IsTree was.tree) (f : Fork) (lives : Lives was.tree.forks f) (body : Body) (count : ℕ) (keeps : Kept f (with_body body f) count) {P : Type 0} (means : PagesMeaning P) (old mid : P) (made : Makes means old mid f.name.tty 0) (holds : Holds means old was.tree.forks) where
+module _ (was : Tables) (is : IsTree was.tree) (f : Fork) (lives : Lives was.tree.forks f) (body : Body) (count : ℕ) (keeps : Kept f (with_body body f) count) {P : Type 0} (means : PagesMeaning P) (old mid : P) (made : Makes means old mid f.name.tty 0) (undone : count ≡ 0 → mid ≡ old) (holds : Holds means old was.tree.forks) where
   abbrev g : Fork
   g = with_body body f
 
@@ -162,6 +164,7 @@ module _ (was : Tables) (is : IsTree was.tree) (f : Fork) (lives : Lives was.tre
     keeps = keeps;
     leaves = leaves_one was.tree is f lives body count keeps means old mid holds (made_less made);
     unmade = made_none made;
+    planned = λ none. subst (StaysPlanned means.store old) (sym (undone none)) (planned_still means.store old);
     needed = needed;
   }
 
@@ -179,7 +182,8 @@ module _ (was : Tables) (is : IsTree was.tree) (f : Fork) (lives : Lives was.tre
     leaves = subst (LeavesForks means old new was.tree tree f) none
         (leaves_then was.tree is f lives body count keeps means old mid new tree 0 made
         (record { holds = waits.left.holds; kept = λ x e. elim (waits.left.kept x e) [ inl came ↦ inl (came_less (put_back was.tree g).forks x 0 came) | inr new ↦ inr new ]; caller = there; tops = waits.left.tops; made = waits.left.made }));
-    unmade = made_on means f.name.tty 0 0 old mid new (made_none made) waits.unmade;
+    unmade = made_on means f.name.tty 0 0 old mid new (made_none made) waits.unmade.made;
+    planned = λ none. subst (λ (s : P). StaysPlanned means.store s new) (undone none) waits.unmade.planned;
     needed = waits.needed;
   }
     where

@@ -42,7 +42,7 @@ use Rattle.file_tables.specs.declared.tables.FileTables.{FileTables}
 use Rattle.file_tables.specs.Tables.{files_of, open_of}
 use Rattle.file_tables.specs.Keys.{key_of}
 use Rattle.page_contracts.specs.declared.answers.Need.{Need}
-use Rattle.job_forks.specs.Holding.{CallLeaves, Holds, IsNew, MakesPages, TopsStay}
+use Rattle.job_forks.specs.Holding.{CallLeaves, Holds, IsNew, MakesPages, PlansOnly, TopsStay}
 use Rattle.monitor_calls.specs.declared.job.Job.{Job}
 use Rattle.monitor_calls.specs.declared.typing.Typing.{Typing}
 use Rattle.monitor_calls.specs.Jobs.{AreUnheld, job_at, jobs_of}
@@ -254,6 +254,7 @@ pub record RanOne {P : Type 0} (leaving : Leaving) (means : PagesMeaning P) (old
   pub told : (d : DrumWords) → means.fits old d → means.fits new d × IsOne leaving f (means.plain old d) g (means.plain new d) last
   pub keeps : Kept f g (units_over last)
   pub made : Makes means old new f.name.tty (makings_of last)
+  pub undone : units_over last ≡ 0 → new ≡ old
   pub fits : FitsLast last
   pub needs : LastNeeds means.store new last
   pub core : means.flat ≡ true → IsMet last
@@ -263,6 +264,7 @@ pub record Ran {P : Type 0} (means : PagesMeaning P) (old new : P) (f g : Fork) 
   pub told : (d : DrumWords) → means.fits old d → means.fits new d × IsRow f (means.plain old d) row.count g (means.plain new d) row.last
   pub keeps : Kept f g row.count
   pub made : Makes means old new f.name.tty (makings_of row.last)
+  pub undone : row.count ≡ 0 → new ≡ old
   pub fits : FitsLast row.last
   pub needs : LastNeeds means.store new row.last
   pub core : means.flat ≡ true → IsMet row.last
@@ -347,14 +349,14 @@ pub record StaysPlainly {P : Type 0} (means : PagesMeaning P) (old new : P) (was
 pub record CallWaits {P : Type 0} (means : PagesMeaning P) (old new : P) (was is : Tables) (who : ForkName) (n : Need) : Type 0 where
   pub told : StaysPlainly means old new was is
   pub left : CallLeaves means old new was.tree is.tree who most_makings
-  pub unmade : MakesPages means who.tty 0 old new
+  pub unmade : PlansOnly means who.tty old new
   pub needed : IsNeeded means.store unit_frames new n
 
 -- no unit was done, since the first needs this, whatever the drum holds
 pub record UnitWaits {P : Type 0} (means : PagesMeaning P) (old new : P) (was is : Tables) (f : Fork) (n : Need) : Type 0 where
   pub told : StaysPlainly means old new was is
   pub leaves : LeavesForks means old new was.tree is.tree f 0
-  pub unmade : MakesPages means f.name.tty 0 old new
+  pub unmade : PlansOnly means f.name.tty old new
   pub needed : IsNeeded means.store unit_frames new n
 
 -- units of a fork of a tree ran in a row, over each drum that fits: so many, and the last showed this

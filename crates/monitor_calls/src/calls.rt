@@ -14,7 +14,7 @@ ghost use Rattle.plain_model.specs.Trees.{with_body};
 ghost use Rattle.page_contracts.specs.declared.answers.Need.{Need as ANeed};
 ghost use Rattle.call_turns.specs.Answers.{AnswerNeeds, IsDone, answer_of, HasRegs};
 ghost use Rattle.call_turns.specs.Turns.{IsRegs};
-ghost use Rattle.job_forks.specs.Holding.{CallLeaves, Holds, MakesPages};
+ghost use Rattle.job_forks.specs.Holding.{CallLeaves, Holds, PlansOnly};
 ghost use Rattle.job_forks.specs.Limits.{AreWithin};
 ghost use Rattle.plain_model.specs.ForkCalls.{fork_call};
 ghost use Rattle.job_forks.specs.Asking.{asked};
@@ -97,7 +97,7 @@ fn fork_turn<P: Pages>(
     ensures trees { IsTree tree.old }
     ensures needs { AnswerNeeds P.means.store call_frames pages.new result }
     ensures core { P.means.flat ≡ true → IsDone result }
-    ensures unmade { (n : ANeed) → result ≡ Answer.Need n → MakesPages P.means who.tty 0 pages.old pages.new }
+    ensures unmade { (n : ANeed) → result ≡ Answer.Need n → PlansOnly P.means who.tty pages.old pages.new }
     ensures leaves { CallLeaves P.means pages.old pages.new tree.old tree.new who 128 }
     ensures adds { number ≡ CFORK → AddsLast who.tty tree.old tree.new }
     ensures regs { HasRegs result }
@@ -140,7 +140,7 @@ fn turn<P: Pages>(
     ensures typing_room { length typed.new.items ≡ TERMINALS }
     ensures needs { AnswerNeeds P.means.store unit_frames pages.new result }
     ensures core { P.means.flat ≡ true → IsDone result }
-    ensures unmade { (n : ANeed) → result ≡ Answer.Need n → MakesPages P.means who.tty 0 pages.old pages.new }
+    ensures unmade { (n : ANeed) → result ≡ Answer.Need n → PlansOnly P.means who.tty pages.old pages.new }
     ensures leaves { CallLeaves P.means pages.old pages.new tree.old tree.new who most_makings }
     ensures own { reach_of number ≡ Reach.Own → tree.new ≡ tree.old }
     ensures made { reach_of number ≡ Reach.Made → AddsLast who.tty tree.old tree.new }

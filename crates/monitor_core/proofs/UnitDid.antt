@@ -15,7 +15,7 @@ use Rattle.machine_names.specs.declared.names.ForkName.{ForkName}
 use Rattle.plain_model.specs.Forks.{is_frozen}
 use Rattle.page_contracts.specs.DrumWords.{DrumWords}
 use Rattle.page_contracts.specs.declared.answers.Need.{Need}
-use Rattle.page_contracts.specs.Stores.{IsNeeded}
+use Rattle.page_contracts.specs.Stores.{IsNeeded, StaysPlanned}
 use Rattle.plain_model.specs.State.{PlainJob}
 use Rattle.plain_model.specs.Trees.{PlainTree, next_name}
 use Rattle.plain_model.proofs.ForkMaps.{AreOwn}
@@ -295,12 +295,13 @@ module _ {P : Type 0} {b : _} (m : System P b) (f : Fork) (trees : IsTree m.tree
         units = λ g there. omega (arith, few_units q left left 0 waits.leaves left_trees (keep_itself left.forks left_trees.slotted.own) entries w g (ap (λ (x : PlainTree). fin.get x.forks g.name) (sym tree_is) ∙ there));
         serials = λ u. subst (λ (x : P). b.means.serial x u ≤ most_makings * entries + 1) (sym pages_are) (serials_still entries w u);
       };
-      most = ap b.means.most pages_are ∙ waits.unmade.most;
+      most = ap b.means.most pages_are ∙ waits.unmade.made.most;
+      planned = subst (StaysPlanned b.means.store m.pages) (sym pages_are) waits.unmade.planned;
       needed = subst (λ (x : P). IsNeeded b.means.store unit_frames x n) (sym pages_are) waits.needed;
     }
       where
         serials_still : (entries : ℕ) → IsWithin m entries → (u : Tty) → b.means.serial q u ≤ most_makings * entries + 1
         serials_still entries w u = elim (cases_eq u.0 f.name.tty.0) [
-          | inl same ↦ let is : u ≡ f.name.tty = λ i. record { 0 = same i } in omega (arith, ap (b.means.serial q) is, waits.unmade.serial, w.serials f.name.tty)
-          | inr ne ↦ omega (arith, waits.unmade.serials u (λ h. ne (ap (λ x. x.0) h)), w.serials u)
+          | inl same ↦ let is : u ≡ f.name.tty = λ i. record { 0 = same i } in omega (arith, ap (b.means.serial q) is, waits.unmade.made.serial, w.serials f.name.tty)
+          | inr ne ↦ omega (arith, waits.unmade.made.serials u (λ h. ne (ap (λ x. x.0) h)), w.serials u)
         ]

@@ -14,7 +14,7 @@ use Rattle.file_tables.specs.Tables.{files_of, open_of}
 use Rattle.script_texts.specs.Limits.{FitsStep}
 use Rattle.page_contracts.specs.DrumWords.{DrumWords}
 use Rattle.page_contracts.specs.declared.answers.Need.{Need}
-use Rattle.page_contracts.specs.Stores.{IsNeeded}
+use Rattle.page_contracts.specs.Stores.{IsNeeded, StaysPlanned}
 use Rattle.plain_model.specs.Run.{apply, state_after, items_of, AreLegal}
 use Rattle.fork_tree.specs.Trees.{Lives}
 use Rattle.plain_model.specs.Forks.{IsRunnable, runs_in}
@@ -78,9 +78,11 @@ pub record DidAll {P : Type 0} {b : _} (old new : System P b) (step : Step) (cou
   pub within : (entries : ℕ) → IsWithin old entries → IsWithin new (entries + count)
   pub most : b.means.most new.pages ≡ b.means.most old.pages
 
--- nothing is done, since this is needed first, whatever the drum holds: over each drum that fits, the system stands for the state for which it stood
+-- nothing is done, since this is needed first, whatever the drum holds: over each drum that fits, the system stands for the state for which it stood; and what was planned
+-- is no use of a page
 pub record Waits {P : Type 0} {b : _} (old new : System P b) (n : Need) : Type 0 where
   pub each : (d : DrumWords) → FitsPages old d → FitsPages new d × (state_of new d ≡ state_of old d)
   pub within : (entries : ℕ) → IsWithin old entries → IsWithin new entries
   pub most : b.means.most new.pages ≡ b.means.most old.pages
+  pub planned : StaysPlanned b.means.store old.pages new.pages
   pub needed : IsNeeded b.means.store unit_frames new.pages n

@@ -6,3 +6,4 @@ pub mod Sums
 pub mod Sharing
 pub mod HomeCounts
 pub mod Planning
+pub mod MapsBack

@@ -7,7 +7,7 @@ use Rattle.std.proofs.lemmas.Bool.Decides.{eqb_tells}
 use Rattle.page_homes.specs.declared.homes.Home.{Home}
 use Rattle.page_contracts.specs.declared.answers.Need.{Need}
 use Rattle.page_contracts.specs.declared.answers.Need.TheVariants.{Page, Frame}
-use Rattle.page_contracts.specs.Stores.{StoreMeaning, Transfer, arrival, departure, Traffic, Loses, Cancels, IsUsed, IsMade, IsFreed, arrives, departs, moves, need_of, next_use, noted, noted_all, same_need, traffic, without, CanFetch, IsNeeded, HomePlace, KeepsFrame, Renews, RenewsLeft, RenewsNone, RenewsOne, RenewsSome, RenewsThere, tenant_left, CountsAgain, RenewsAgain}
+use Rattle.page_contracts.specs.Stores.{StoreMeaning, Transfer, arrival, departure, Traffic, Loses, Cancels, StaysQueued, IsUsed, IsMade, IsFreed, arrives, departs, moves, need_of, next_use, noted, noted_all, same_need, traffic, without, CanFetch, IsNeeded, HomePlace, KeepsFrame, Renews, RenewsLeft, RenewsNone, RenewsOne, RenewsSome, RenewsThere, tenant_left, CountsAgain, RenewsAgain}
 
 or_assoc : (a b c : Bool) → ((a || b) || c) ≡ (a || (b || c))
 or_assoc true b c = refl
@@ -324,6 +324,53 @@ holds_less t u l holder home h = within (t.holds holder) (sym (ap (list_any (λ 
     within : (xs : List ℕ) → list_any (λ k. k == home) (filter (λ k. not (l.given k)) xs) ≡ true → list_any (λ k. k == home) xs ≡ true
     within [] e = e
     within (x ∷ xs) e = at (l.given x) x xs (within xs) e
+
+-- what no transfer is taken from stays
+without_none : (these : Transfer → Bool) (ts : List Transfer) → list_any these ts ≡ false → without these ts ≡ ts
+without_none these [] none = refl
+without_none these (t ∷ ts) none = at (these t) none (λ rest. without_none these ts rest)
+  where
+    at : (b : Bool) → (b || list_any these ts) ≡ false → (list_any these ts ≡ false → without these ts ≡ ts) → cond (not b) (t ∷ without these ts) (without these ts) ≡ t ∷ ts
+    at true some rest = absurd (cc some)
+    at false none rest = ap (λ us. t ∷ us) (rest none)
+
+taken_none : (these : Transfer → Bool) (ts : List Transfer) → list_any these ts ≡ false → filter these ts ≡ []
+taken_none these [] none = refl
+taken_none these (t ∷ ts) none = at (these t) none (λ rest. taken_none these ts rest)
+  where
+    at : (b : Bool) → (b || list_any these ts) ≡ false → (list_any these ts ≡ false → filter these ts ≡ []) → cond b (t ∷ filter these ts) (filter these ts) ≡ []
+    at true some rest = absurd (cc some)
+    at false none rest = rest none
+
+-- what no transfer moves doesn't depart
+pub still_here : (home : ℕ) (ts : List Transfer) → list_any (moves home) ts ≡ false → list_any (departs home) ts ≡ false
+still_here home [] none = refl
+still_here home (departure other ∷ ts) none = at (home == other) none (λ rest. still_here home ts rest)
+  where
+    at : (b : Bool) → (b || list_any (moves home) ts) ≡ false → (list_any (moves home) ts ≡ false → list_any (departs home) ts ≡ false) → (b || list_any (departs home) ts) ≡ false
+    at true some rest = absurd (cc some)
+    at false none rest = rest none
+still_here home (arrival other ∷ ts) none = at (home == other) none (λ rest. still_here home ts rest)
+  where
+    at : (b : Bool) → (b || list_any (moves home) ts) ≡ false → (list_any (moves home) ts ≡ false → list_any (departs home) ts ≡ false) → list_any (departs home) ts ≡ false
+    at true some rest = absurd (cc some)
+    at false none rest = rest none
+
+-- so does what is held
+pub given_none : (home : ℕ) (hs : List ℕ) → list_any (λ h. h == home) hs ≡ false → filter (λ h. not (h == home)) hs ≡ hs
+given_none home [] none = refl
+given_none home (h ∷ hs) none = at (h == home) none (λ rest. given_none home hs rest)
+  where
+    at : (b : Bool) → (b || list_any (λ k. k == home) hs) ≡ false → (list_any (λ k. k == home) hs ≡ false → filter (λ k. not (k == home)) hs ≡ hs) → cond (not b) (h ∷ filter (λ k. not (k == home)) hs) (filter (λ k. not (k == home)) hs) ≡ h ∷ hs
+    at true some rest = absurd (cc some)
+    at false none rest = ap (λ ks. h ∷ ks) (rest none)
+
+-- and no more is told
+pub cancels_none : {S : Type 0} (means : StoreMeaning S) (these : Transfer → Bool) (old new : S) → list_any these (means.queue old) ≡ false → Cancels means these old new → StaysQueued means old new
+cancels_none means these old new none c = record {
+  queue = c.queue ∙ without_none these (means.queue old) none;
+  untold = c.untold ∙ ap (λ ts. noted_all ts (means.untold old)) (taken_none these (means.queue old) none);
+}
 
 module _ {S : Type 0} (means : StoreMeaning S) (old new : S) where
   -- transfers that are taken from the queue, and pages that are held no more

@@ -1,8 +1,10 @@
 -- What each call leaves that changes maps or files: over the plain pages, over what is in frames, and in all numbers.
-use Rattle.std.specs.Prelude.{◌≡◌, ◌≢◌, ℕ, ◌+◌, ◌≤◌, Option, is_some, not, ◌||◌, ◌&&◌}
+use Rattle.std.specs.Prelude.{◌≡◌, ◌≢◌, ℕ, ◌+◌, ◌≤◌, ◌==◌, Option, Some, is_some, false, not, ◌||◌, ◌&&◌}
+use Rattle.std.specs.List.{list_any}
 use Rattle.machine_names.specs.declared.names.FileNo.{FileNo}
 use Rattle.machine_names.specs.declared.names.ForkName.{ForkName}
 use Rattle.machine_names.specs.declared.names.Kind.{Kind}
+use Rattle.machine_names.specs.declared.names.PageName.{PageName}
 use Rattle.machine_names.specs.declared.names.Place.{Place}
 use Rattle.machine_names.specs.declared.names.Slot.{Slot}
 use Rattle.machine_names.specs.declared.names.Tty.{Tty}
@@ -16,8 +18,8 @@ use Rattle.plain_pages.specs.PlainPages.{NumberedPages}
 use Rattle.plain_pages.specs.References.{settled, without_fork}
 use Rattle.page_contracts.specs.declared.answers.Touch.TheVariants.{Ready}
 use Rattle.page_contracts.specs.DrumWords.{DrumWords}
-use Rattle.page_contracts.specs.Pages.{PagesMeaning, AddsMap, AddsUse, DropsFile, DropsMap, FilesMade, FilesOne, MayLose, SetsEntry, SetsFile, SettlesHome, SettlesTo, StandsAt, StaysInCore, TakesFrames, TakesMap, UsesMap, UsesNone, UsesPlace, frames_taken, spot_of}
-use Rattle.page_contracts.specs.Stores.{IsUsed}
+use Rattle.page_contracts.specs.Pages.{PagesMeaning, AddsMap, AddsUse, DropsFile, DropsMap, FilesMade, FilesOne, MayLose, NamesPage, SetsEntry, SetsFile, SettlesHome, SettlesTo, StandsAt, StaysInCore, TakesFrames, TakesMap, UsesMap, UsesNone, UsesPlace, frames_taken, spot_of}
+use Rattle.page_contracts.specs.Stores.{IsUsed, StaysQueued, free, moves, place}
 
 module _ {P : Type 0} (means : PagesMeaning P) where
   -- over each drum that fits, the plain pages are changed so
@@ -54,26 +56,44 @@ module _ {P : Type 0} (means : PagesMeaning P) where
     pub serials : (t : Tty) → t ≢ owner → means.serial new t ≡ means.serial old t
     pub most : means.most new ≡ means.most old
 
-  -- A fork was added, with its map.
+  -- no transfer was taken from the queue, and what was held is
+  pub record StaysBeside (old new : P) : Type 0 where
+    pub queued : StaysQueued means.store old new
+    pub holds : means.store.holds new ≡ means.store.holds old
+
+  -- no transfer moves the page of a home, and it is held for nobody
+  pub record IsQuiet (p : P) (home : ℕ) : Type 0 where
+    pub unmoved : list_any (moves home) (means.store.queue p) ≡ false
+    pub unheld : (holder : ℕ) → list_any (λ h. h == home) (means.store.holds p holder) ≡ false
+
+  -- the home of a map is free, and nothing else is queued, told or held than was
+  pub record GivesMapUp (fork : ForkName) (old new : P) : Type 0 where
+    pub own : (home : ℕ) → means.map_home old fork ≡ Some home → place (means.store.homes new) home ≡ free
+    pub beside : StaysBeside old new
+
+  -- A fork was added, with its map, whose home was free.
   pub record ForkAdded (fork : ForkName) (entries : NewMap) (old new : P) : Type 0 where
     pub told : Becomes (λ p. with_map p fork entries) old new
     pub scene : TakesMap (means.scene old) (means.scene new) fork
     pub loses : MayLose means old new
     pub uses : AddsUse means fork old new
     pub adds : AddsMap means fork old new
+    pub own : (home : ℕ) → means.map_home new fork ≡ Some home → place (means.store.homes old) home ≡ free
+    pub beside : StaysBeside old new
     pub lives : (f : ForkName) → means.lives new f ≡ (same_fork f fork || means.lives old f)
     pub forks : means.forks_of new fork.tty ≡ means.forks_of old fork.tty + 1
     pub others : (t : Tty) → t ≢ fork.tty → means.forks_of new t ≡ means.forks_of old t
     pub serials : means.serial new ≡ means.serial old
     pub most : means.most new ≡ means.most old
 
-  -- A fork was dropped, with its map, and each page that lost its last name.
+  -- A fork was dropped, with its map, and each page that lost its last name. A map that named no page, and was quiet, is given up alone.
   pub record ForkDropped (fork : ForkName) (old new : P) : Type 0 where
     pub told : Becomes (λ p. without_fork p fork) old new
     pub scene : StaysInCore (means.scene old) (means.scene new) 0
     pub loses : MayLose means old new
     pub uses : UsesNone means old new
     pub drops : DropsMap means fork old new
+    pub bare : ((n : PageName) → NamesPage means old fork n → ⊥) → ((home : ℕ) → means.map_home old fork ≡ Some home → IsQuiet old home) → GivesMapUp fork old new
     pub lives : (f : ForkName) → means.lives new f ≡ (not (same_fork f fork) && means.lives old f)
     pub forks : means.forks_of new fork.tty + 1 ≡ means.forks_of old fork.tty
     pub others : (t : Tty) → t ≢ fork.tty → means.forks_of new t ≡ means.forks_of old t

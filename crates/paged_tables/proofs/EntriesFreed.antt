@@ -1,6 +1,7 @@
 -- Which homes are given up where an entry of a map names no page any more, and where all of them do.
-use Rattle.std.proofs.Common.{◌≡◌, ◌≢◌, inl, inr, ℕ, ◌+◌, ◌<◌, List, length, true, cond, Option, None, Some, is_some, refl, sym, ◌∙◌, ap, arith}
+use Rattle.std.proofs.Common.{◌≡◌, ◌≢◌, inl, inr, ℕ, ◌+◌, ◌<◌, List, length, true, false, cond, Option, None, Some, is_some, refl, sym, ◌∙◌, ap, subst, arith}
 use Rattle.std.specs.Prelude.{slice_index, slice_set}
+use Rattle.std.specs.List.{list_any}
 use Rattle.std.specs.Option.{option_and_then, option_map_or}
 use Rattle.std.proofs.Math.Path.{fun_ext}
 use Rattle.std.proofs.lemmas.Bool.{cases_eq}
@@ -9,7 +10,8 @@ use Rattle.machine_names.specs.declared.names.Access.{Access}
 use Rattle.machine_names.specs.declared.names.ForkName.{ForkName}
 use Rattle.machine_names.specs.declared.names.Slot.{Slot}
 use Rattle.page_homes.specs.declared.homes.Home.{Home}
-use Rattle.page_contracts.specs.Stores.{HomePlace, StoreMeaning, away, away_at, away_home, free, here, is_taken, place, with_word_in, word_in}
+use Rattle.page_contracts.specs.Stores.{HomePlace, IsUsed, StoreMeaning, away, away_at, away_home, departs, free, here, is_taken, place, with_word_in, word_in}
+use Rattle.page_contracts.proofs.Losing.{cancels_none}
 use Rattle.share_table.specs.declared.pointer.Pointer.{Pointer}
 use Rattle.share_table.specs.declared.pointer.Pointer.TheVariants as pointer
 use Rattle.share_table.specs.declared.shares.Share.{Share}
@@ -129,6 +131,8 @@ module _ {S : Type 0} (store : StoreMeaning S) (old new : S) (b b' : Beside) (ke
   left_frees z = record {
     keeps = word_keeps store old new b b' kept at z.number z.numbered (pointer_word pointer) z.homes (ap (λ (x : Beside). x.tables.names) z.beside);
     frames = λ none. z.used.framed.spare;
+    used = λ none number is. (let both : Some z.number ≡ Some number = sym z.numbered ∙ is in
+        let same : z.number ≡ number = cc both in subst (λ (k : ℕ). IsUsed store (root_at b.tables.maps k).0 old new) same z.used);
     away = λ i f. option_and_then (λ k. gone i (root_at (maps i) k).0) (index_of (maps i) f);
     others = others_named b b' places (store.homes new) at.fork z.number z.numbered maps fewer at.page (pointer_word pointer) (ap (λ ps. place ps root) z.homes ∙ get_or-set_same places root put free within);
   }
@@ -165,6 +169,7 @@ module _ {S : Type 0} (store : StoreMeaning S) (old new : S) (b b' : Beside) (ke
       ];
     };
     frames = λ none. absurd (none home.0 (named home.0 refl));
+    used = λ none number is. absurd (none home.0 (named home.0 refl));
     away = fun_ext away_same;
     others = others_named b b' places (store.homes new) at.fork z.number z.numbered maps fewer at.page (pointer_word pointer) words_are;
   }
@@ -220,7 +225,7 @@ module _ {S : Type 0} (store : StoreMeaning S) (old new : S) (b b' : Beside) (ke
 
 -- none of a map's entries
 pub frees_none : {S : Type 0} (store : StoreMeaning S) (old : S) (b : Beside) (fork : ForkName) (number : ℕ) → index_of b.tables.maps fork ≡ Some number → FreesEntries store old old b b fork 0
-frees_none store old b fork number numbered = record { number = number; numbered = numbered; homes = λ k ne. inl (refl, refl); frames = λ none. refl; away = refl; rest = λ page k l n. n }
+frees_none store old b fork number numbered = record { number = number; numbered = numbered; homes = λ k ne. inl (refl, refl); frames = λ none. refl; still = λ none quiet. record { queue = refl; untold = refl }; holds = λ none. refl; away = refl; rest = λ page k l n. n }
 
 -- one more
 module _ {S : Type 0} (store : StoreMeaning S) (old mid new : S) (b b1 b' : Beside) (fork : ForkName) (page : ℕ) (maps : b1.tables.maps ≡ b.tables.maps) (so_far : FreesEntries store old mid b b1 fork page) (frees : FreesEntry store mid new b1 b' (record { fork = fork; page = page })) where
@@ -230,6 +235,11 @@ module _ {S : Type 0} (store : StoreMeaning S) (old mid new : S) (b b1 b' : Besi
     numbered = so_far.numbered;
     homes = λ k ne. homes_more k (so_far.homes k ne) (frees.keeps.homes k (λ same. ne (same ∙ root)));
     frames = λ none. frees.frames (λ k n. none k (has k n)) ∙ so_far.frames none;
+    still = λ none quiet. (let before = so_far.still none quiet in
+        let same : list_any (departs (root_at b1.tables.maps frees.keeps.number).0) (store.queue mid) ≡ false = ap (λ k. list_any (departs k) (store.queue mid)) root ∙ ap (list_any (departs (root_at b.tables.maps so_far.number).0)) before.queue ∙ quiet in
+        let now = cancels_none store (departs (root_at b1.tables.maps frees.keeps.number).0) mid new same (frees.used (λ k n. none k (has k n)) frees.keeps.number frees.keeps.numbered).rescued in
+        record { queue = now.queue ∙ before.queue; untold = now.untold ∙ before.untold });
+    holds = λ none. (frees.used (λ k n. none k (has k n)) frees.keeps.number frees.keeps.numbered).holds ∙ so_far.holds none;
     away = frees.away ∙ so_far.away;
     rest = λ j k l n. so_far.rest j k (omega (arith, l)) (frees.others j k (λ same. omega (arith, l, same)) n);
   }

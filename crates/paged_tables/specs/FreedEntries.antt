@@ -1,10 +1,11 @@
 -- Which homes are given up where entries of a map are emptied, and where the map goes.
-use Rattle.std.specs.Prelude.{◌≡◌, ◌≢◌, ℕ, ◌≤◌, List, Some}
+use Rattle.std.specs.Prelude.{◌≡◌, ◌≢◌, ℕ, ◌≤◌, List, Some, false}
+use Rattle.std.specs.List.{list_any}
 use Rattle.machine_names.specs.declared.names.Access.{Access}
 use Rattle.machine_names.specs.declared.names.ForkName.{ForkName}
 use Rattle.machine_names.specs.declared.names.Slot.{Slot}
 use Rattle.machine_names.specs.declared.names.TheConstants.{SPACE_PAGES}
-use Rattle.page_contracts.specs.Stores.{HomePlace, IsFreed, StoreMeaning, place, with_word_in}
+use Rattle.page_contracts.specs.Stores.{HomePlace, IsFreed, IsUsed, StaysQueued, StoreMeaning, departs, place, with_word_in}
 use Rattle.pager_walk.specs.declared.paged_entry.Looked.TheVariants.{Is}
 use Rattle.pager_walk.specs.declared.paged_entry.PagedEntry.TheVariants.{Page}
 use Rattle.pager_walk.specs.MapPages.{index_of, root_at}
@@ -31,10 +32,11 @@ pub record KeepsHomes {S : Type 0} (store : StoreMeaning S) (old new : S) (b b' 
   pub map : place (store.homes new) (root_at b.tables.maps number).0 ≡ with_word_in (place (store.homes old) (root_at b.tables.maps number).0) at.page word
   pub homes : (k : ℕ) → k ≢ (root_at b.tables.maps number).0 → PageStays b (store.homes old) b' (store.homes new) k (NamesHome b (store.homes old) at k)
 
--- It names no page any more, and each other entry that names a page named it.
+-- It names no page any more, and each other entry that names a page named it. Where it named none, the map's page was used alone.
 pub record FreesEntry {S : Type 0} (store : StoreMeaning S) (old new : S) (b b' : Beside) (at : Slot) : Type 0 where
   pub keeps : KeepsHomes store old new b b' at
   pub frames : ((k : ℕ) → NamesHome b (store.homes old) at k → ⊥) → store.spare new ≡ store.spare old
+  pub used : ((k : ℕ) → NamesHome b (store.homes old) at k → ⊥) → (number : ℕ) → index_of b.tables.maps at.fork ≡ Some number → IsUsed store (root_at b.tables.maps number).0 old new
   pub away : map_away b'.tables (store.homes new) ≡ map_away b.tables (store.homes old)
   pub others : (page k : ℕ) → page ≢ at.page → NamesHome b' (store.homes new) (record { fork = at.fork; page = page }) k → NamesHome b (store.homes old) (record { fork = at.fork; page = page }) k
 
@@ -44,6 +46,8 @@ pub record FreesEntries {S : Type 0} (store : StoreMeaning S) (old new : S) (b b
   pub numbered : index_of b.tables.maps fork ≡ Some number
   pub homes : (k : ℕ) → k ≢ (root_at b.tables.maps number).0 → PageStays b (store.homes old) b' (store.homes new) k (MapHas b (store.homes old) fork k)
   pub frames : ((k : ℕ) → MapHas b (store.homes old) fork k → ⊥) → store.spare new ≡ store.spare old
+  pub still : ((k : ℕ) → MapHas b (store.homes old) fork k → ⊥) → list_any (departs (root_at b.tables.maps number).0) (store.queue old) ≡ false → StaysQueued store old new
+  pub holds : ((k : ℕ) → MapHas b (store.homes old) fork k → ⊥) → store.holds new ≡ store.holds old
   pub away : map_away b'.tables (store.homes new) ≡ map_away b.tables (store.homes old)
   pub rest : (page k : ℕ) → pages ≤ page → NamesHome b' (store.homes new) (record { fork = fork; page = page }) k → NamesHome b (store.homes old) (record { fork = fork; page = page }) k
 

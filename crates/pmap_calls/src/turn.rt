@@ -58,7 +58,7 @@ fn set<P: Pages>(pages: &mut P, slot: Slot, new: NewEntry) -> Result<(), Need>
     ensures needs { IfErr result (IsNeeded P.means.store 1 pages.new) }
     ensures core { P.means.flat ≡ true → IsOk result }
     ensures loses { MayLose P.means pages.old pages.new }
-    ensures made { (owner : ATty) → MakesAtMost P.means owner 0 pages.old pages.new }
+    ensures made { (owner : ATty) → MakesOne P.means owner pages.old pages.new result }
 {
     match entry_of(pages, slot) {
         Ok(_) => {

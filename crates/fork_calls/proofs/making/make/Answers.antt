@@ -18,6 +18,8 @@ use Rattle.plain_pages.specs.Room.{HasRoom}
 use Rattle.plain_pages.specs.References.{without_fork}
 use Rattle.page_contracts.specs.declared.answers.Need.TheVariants.{Frame}
 use Rattle.page_contracts.proofs.Losing.{needed_more}
+use Rattle.page_contracts.proofs.MapsBack.{added_and_dropped}
+use Rattle.page_contracts.specs.Changes.{ForkDropped}
 use Rattle.page_contracts.specs.Pages.{IsNewMap, MayLose, NamesPage, PagesMeaning, TakesMap}
 use Rattle.plain_model.specs.Trees.{PlainTree, next_name}
 use Rattle.plain_model.specs.ForkCalls.{made_fork, map_wanted}
@@ -37,7 +39,7 @@ use Rattle.fork_calls.specs.Needing.{making_frames}
 use Rattle.fork_calls.specs.Steps.{made_where, second_regs}
 use Rattle.fork_calls.proofs.Adding.{adds_made, adds_nobody}
 use Rattle.fork_calls.proofs.Added.{added_dropped, added_holds, back_holds, enough_room, few_forks, no_frame, no_room, not_there, room_told}
-use Rattle.job_forks.proofs.Branch.{made_on, none_made}
+use Rattle.job_forks.proofs.Branch.{made_on, none_made, plans_none}
 use Rattle.job_forks.proofs.CallLeaving.{grown_leaves, none_grown}
 use Rattle.fork_calls.proofs.Going.{goes, stops}
 use Rattle.fork_calls.proofs.Grown.{slot_told}
@@ -239,15 +241,20 @@ pub returns-in-Ok-clause-needs : goal.returns-in-Ok-clause-needs
 returns-in-Ok-clause-needs g c = done_needs g.P.Pages.means.store making_frames c.accumulators.new.pages c.returned.result c.returned.ensures.core
 
 pub returns-in-NeedFrame-clause-unmade : goal.returns-in-NeedFrame-clause-unmade
-returns-in-NeedFrame-clause-unmade g c n is = none_made g.P.Pages.means c.args.pages.now c.args.pages.now c.args.who.tty refl refl
+returns-in-NeedFrame-clause-unmade g c n is = plans_none g.P.Pages.means c.args.pages.now c.args.pages.now c.args.who.tty refl
 
 pub returns-in-Err-clause-unmade : goal.returns-in-Err-clause-unmade
 returns-in-Err-clause-unmade g c n is =
     let means = g.P.Pages.means in
     let same = c.in-Err.ensures.stopped in
     let add = c.add_fork.ensures in
-    let drop = c.drop_fork.ensures in
-    none_made means c.args.pages.now c.drop_fork.new.self c.args.who.tty (drop.serials ∙ ap (λ s. means.serial s) same ∙ add.serials) (drop.most ∙ ap (λ s. means.most s) same ∙ add.most)
+    let name = c.next_name-name.result in
+    let new = c.drop_fork.new.self in
+    let drop : ForkDropped means name c.add_fork.new.self new = subst (λ s. ForkDropped means name s new) same c.drop_fork.ensures in
+    record {
+      made = none_made means c.args.pages.now new c.args.who.tty (drop.serials ∙ add.serials) (drop.most ∙ add.most);
+      planned = added_and_dropped means name c.map_wanted.result c.args.pages.now c.add_fork.new.self new (g.met.P.Pages.housed c.args.pages.now) (g.met.P.Pages.housed new) add drop;
+    }
 
 pub returns-in-Ok-clause-unmade : goal.returns-in-Ok-clause-unmade
 returns-in-Ok-clause-unmade g c n is = absurd (subst IsDone is c.returned.ensures.core)

@@ -17,7 +17,7 @@ use Rattle.fork_calls.specs.Blocks.{GoesOn, TookBlock}
 use Rattle.fork_calls.specs.Steps.{store_end, whole}
 use Rattle.job_forks.specs.Holding.{parts}
 use Rattle.fork_calls.specs.declared.step.FirstStep.TheVariants.{Stores}
-use Rattle.job_forks.proofs.Branch.{none_made}
+use Rattle.job_forks.proofs.Branch.{plans_none}
 use Rattle.job_forks.proofs.CallLeaving.{grown_leaves}
 use Rattle.fork_calls.proofs.Needed.{done_needs, stop_needs}
 use Rattle.fork_calls.proofs.TurnBlocks.{block_goes, block_stops, turn_stops, words_stored}
@@ -83,8 +83,7 @@ returns-in-Ok-clause-needs g c = done_needs g.P.Pages.means.store most_frames c.
 
 pub returns-in-Err-clause-unmade : goal.returns-in-Err-clause-unmade
 returns-in-Err-clause-unmade g c n is =
-    let means = g.P.Pages.means in
-    none_made means c.args.pages.now c.block.new.pages c.args.who.tty (ap (λ s. means.serial s) c.in-Err.ensures.stopped) (ap (λ s. means.most s) c.in-Err.ensures.stopped)
+    plans_none g.P.Pages.means c.args.pages.now c.block.new.pages c.args.who.tty c.in-Err.ensures.stopped
 
 pub returns-in-Ok-clause-unmade : goal.returns-in-Ok-clause-unmade
 returns-in-Ok-clause-unmade g c n is = absurd (subst IsDone is c.returned.ensures.core)

@@ -9,6 +9,7 @@ use Rattle.fork_calls.specs.Steps.{MakesOrFails, whole}
 use Rattle.fork_calls.specs.declared.step.FirstStep.TheVariants.{Ends}
 use Rattle.fork_calls.specs.Turning.{Turned}
 use Rattle.fork_calls.proofs.Adding.{adds_nobody}
+use Rattle.job_forks.proofs.Branch.{plans_none}
 use Rattle.job_forks.proofs.Holdings.{caller_serves, caller_terminal}
 use Rattle.fork_calls.proofs.Needed.{answer_more}
 use Rattle.fork_calls.proofs.turn.call.Goals as goal
@@ -59,7 +60,7 @@ pub returns-in-Stores-clause-needs : goal.returns-in-Stores-clause-needs
 returns-in-Stores-clause-needs g c = answer_more g.P.Pages.means.store most_frames c.store_accumulators.new.pages call_frames c.store_accumulators.result (omega arith) c.store_accumulators.ensures.needs
 
 pub returns-in-Ends-clause-unmade : goal.returns-in-Ends-clause-unmade
-returns-in-Ends-clause-unmade g c n is = c.end.ensures.leaves.made
+returns-in-Ends-clause-unmade g c n is = plans_none g.P.Pages.means c.args.pages.now c.end.new.pages c.args.who.tty (c.end.ensures.unmade n is)
 
 -- CFORK makes a fork or fails
 pub returns-in-Ends-clause-adds : goal.returns-in-Ends-clause-adds

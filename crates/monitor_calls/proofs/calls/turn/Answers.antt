@@ -28,7 +28,7 @@ use Rattle.job_forks.specs.Asking.{asked as asked_by}
 use Rattle.psi_calls.specs.Turning.{PsiNeeds, Stays as StaysAll, psi_frames}
 use Rattle.fork_tree.proofs.Slots.{some_of}
 use Rattle.job_forks.specs.Holding.{CallLeaves, Holds, SamePlaces}
-use Rattle.job_forks.proofs.Branch.{none_made}
+use Rattle.job_forks.proofs.Branch.{plans_none}
 use Rattle.job_forks.proofs.CallLeaving.{grown_leaves}
 use Rattle.fork_calls.proofs.Needed.{answer_more, done_needs}
 use Rattle.pmap_calls.specs.Asking.{asked}
@@ -174,7 +174,7 @@ returns-in-Interrupts-clause-unmade g c n is =
     let means = g.P.Pages.means in
     let call = c.call in
     let same = (subst (StaysAll c.args.pages.now call.new.pages c.args.tree.now call.new.tree c.index_mut-in-Interrupts.result.now.input call.new.line) is call.ensures.stays).0 in
-    none_made means c.args.pages.now call.new.pages c.args.who.tty (ap means.serial same) (ap means.most same)
+    plans_none means c.args.pages.now call.new.pages c.args.who.tty same
 
 -- a turn of a call on the clock
 pub returns-in-Clock-clause-told : goal.returns-in-Clock-clause-told
@@ -196,7 +196,7 @@ pub returns-in-Clock-clause-needs : goal.returns-in-Clock-clause-needs
 returns-in-Clock-clause-needs g c = done_needs g.P.Pages.means.store unit_frames c.args.pages.now c.call-in-Clock.result c.call-in-Clock.ensures.done
 
 pub returns-in-Clock-clause-unmade : goal.returns-in-Clock-clause-unmade
-returns-in-Clock-clause-unmade g c n is = none_made g.P.Pages.means c.args.pages.now c.args.pages.now c.args.who.tty refl refl
+returns-in-Clock-clause-unmade g c n is = plans_none g.P.Pages.means c.args.pages.now c.args.pages.now c.args.who.tty refl
 
 pub returns-in-Clock-clause-leaves : goal.returns-in-Clock-clause-leaves
 returns-in-Clock-clause-leaves g c =
@@ -274,7 +274,7 @@ pub returns-in-Printing-clause-needs : goal.returns-in-Printing-clause-needs
 returns-in-Printing-clause-needs g c = done_needs g.P.Pages.means.store unit_frames c.args.pages.now c.print_call.result c.print_call.ensures.done
 
 pub returns-in-Printing-clause-unmade : goal.returns-in-Printing-clause-unmade
-returns-in-Printing-clause-unmade g c n is = none_made g.P.Pages.means c.args.pages.now c.args.pages.now c.args.who.tty refl refl
+returns-in-Printing-clause-unmade g c n is = plans_none g.P.Pages.means c.args.pages.now c.args.pages.now c.args.who.tty refl
 
 pub returns-in-Maps-clause-needs : goal.returns-in-Maps-clause-needs
 returns-in-Maps-clause-needs g c = answer_more g.P.Pages.means.store 1 c.call-in-Maps.new.pages unit_frames c.call-in-Maps.result (omega arith) c.call-in-Maps.ensures.needs
@@ -286,7 +286,7 @@ pub returns-in-Errors-clause-needs : goal.returns-in-Errors-clause-needs
 returns-in-Errors-clause-needs g c = done_needs g.P.Pages.means.store unit_frames c.args.pages.now c.call-in-Errors.result c.call-in-Errors.ensures.done
 
 pub returns-in-Errors-clause-unmade : goal.returns-in-Errors-clause-unmade
-returns-in-Errors-clause-unmade g c n is = none_made g.P.Pages.means c.args.pages.now c.args.pages.now c.args.who.tty refl refl
+returns-in-Errors-clause-unmade g c n is = plans_none g.P.Pages.means c.args.pages.now c.args.pages.now c.args.who.tty refl
 
 -- a turn of a call on JFNs
 pub returns-in-Some-index-clause-told : goal.returns-in-Some-index-clause-told
@@ -320,7 +320,7 @@ pub returns-in-Some-index-clause-unmade : goal.returns-in-Some-index-clause-unma
 returns-in-Some-index-clause-unmade g c n is =
     let means = g.P.Pages.means in
     let same = (subst (Stays c.args.pages.now c.jfn_call.new.pages c.args.files.now c.jfn_call.new.tables) is c.jfn_call.ensures.stays).0 in
-    none_made means c.args.pages.now c.jfn_call.new.pages c.args.who.tty (ap means.serial same) (ap means.most same)
+    plans_none means c.args.pages.now c.jfn_call.new.pages c.args.who.tty same
 
 pub call-requires-in-Maps-clause-terminal : goal.call-requires-in-Maps-clause-terminal
 call-requires-in-Maps-clause-terminal g c = c.requires.job.terminal
@@ -438,7 +438,7 @@ returns-in-Strings-clause-unmade g c n is =
     let means = g.P.Pages.means in
     let call = c.call-in-Strings in
     let same = (subst (StaysWhole c.args.pages.now call.new.pages c.args.files.now call.new.tables c.index_mut-in-Strings.result.now.input call.new.input) is call.ensures.stays).0 in
-    none_made means c.args.pages.now call.new.pages c.args.who.tty (ap means.serial same) (ap means.most same)
+    plans_none means c.args.pages.now call.new.pages c.args.who.tty same
 
 pub returns-in-Strings-clause-leaves : goal.returns-in-Strings-clause-leaves
 returns-in-Strings-clause-leaves g c = grown_leaves g.P.Pages.means c.args.who c.args.tree.now most_makings c.args.pages.now c.call-in-Strings.new.pages c.call-in-Strings.ensures.grows c.requires.holds

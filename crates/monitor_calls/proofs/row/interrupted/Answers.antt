@@ -46,6 +46,7 @@ returns-in-Trap g c at =
       keeps = subst (λ h. Kept f h 1) (sym left) (forced_keeps f channel low c.requires.can.fits.pc c.requires.can.fits.accumulators);
       made = record { lives = refl; forks = refl; most = refl; own = omega arith; others = λ t ne. refl };
       fits = (tt, low);
+      undone = λ none. absurd (cc none);
       needs = tt;
       core = λ flat. tt;
     })
@@ -64,6 +65,7 @@ returns-in-Nothing g c at =
           (left.0, one_as behind_instruction behind_interrupted f (fork_of c.args.fork at c.one_unit.new.body) (means.plain p d) (means.plain c.one_unit.new.pages d) c.one_unit.result (λ key rest. ap (behind_decided key rest f (means.plain p d) (inspected_on f (means.plain p d)).pages) what) left.1);
       keeps = one.keeps;
       made = one.made;
+      undone = one.undone;
       fits = one.fits;
       needs = one.needs;
       core = one.core;
@@ -89,6 +91,7 @@ returns-in-Forces g c at =
       keeps = subst (λ h. Kept f h 1) (sym left) (forced_keeps f channel low c.requires.can.fits.pc c.requires.can.fits.accumulators);
       made = record { lives = refl; forks = refl; most = refl; own = omega arith; others = λ t ne. refl };
       fits = (tt, low);
+      undone = λ none. absurd (cc none);
       needs = tt;
       core = λ flat. tt;
     })
@@ -117,6 +120,7 @@ returns-in-Delivers g c at =
       keeps = subst (λ h. Kept f h 1) (sym left) (delivered_keeps f delivery fit.found.to c.requires.can.fits.accumulators);
       made = record { lives = deliver.grows.lives; forks = deliver.grows.forks; most = deliver.grows.most; own = omega (arith, deliver.grows.serial); others = deliver.grows.serials };
       fits = (tt, tt);
+      undone = λ none. absurd (cc none);
       needs = tt;
       core = λ flat. tt;
     }

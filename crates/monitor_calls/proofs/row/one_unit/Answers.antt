@@ -25,6 +25,7 @@ returns-in-Done g c at =
       keeps = subst (λ h. Kept f h 1) (sym left) (ended_keeps f regs slow.pc (slow.accumulators ∙ c.requires.can.fits.accumulators) c.in-Done.post);
       made = record { lives = slow.grows.lives; forks = slow.grows.forks; most = slow.grows.most; own = omega (arith, slow.grows.serial); others = slow.grows.serials };
       fits = ended.fits;
+      undone = λ none. absurd (cc none);
       needs = tt;
       core = λ flat. tt;
     }
@@ -45,6 +46,7 @@ returns-in-Trap g c at =
       keeps = subst (λ h. Kept f h 1) (sym left) (posted_keeps f regs slow.pc (slow.accumulators ∙ c.requires.can.fits.accumulators) c.in-Trap.channel);
       made = record { lives = slow.grows.lives; forks = slow.grows.forks; most = slow.grows.most; own = omega (arith, slow.grows.serial); others = slow.grows.serials };
       fits = posted.fits;
+      undone = λ none. absurd (cc none);
       needs = tt;
       core = λ flat. tt;
     }
@@ -69,6 +71,7 @@ returns-in-Call g c at =
         others = slow.grows.serials;
       };
       fits = tt;
+      undone = λ none. slow.stopped.1;
       needs = tt;
       core = λ flat. tt;
     }
@@ -87,6 +90,7 @@ returns-in-Need g c at =
         own = omega (arith, ap (λ x. g.P.Pages.means.serial x c.args.fork.tty) slow.stopped.1);
         others = slow.grows.serials;
       };
+      undone = λ none. slow.stopped.1;
       fits = tt;
       needs = needed_more g.P.Pages.means.store most_frames unit_frames c.slow_unit.new.pages c.in-Need.need (omega arith) slow.needs;
       core = slow.core;

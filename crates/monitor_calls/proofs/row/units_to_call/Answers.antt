@@ -35,6 +35,7 @@ returns-in-Most-clause-ran g c at =
           );
       keeps = subst (λ k. Kept f (ran_on f k regs) n) (sym c.from.ensures) (row_keeps f n regs burst.pc (burst.accumulators ∙ c.requires.can.fits.accumulators));
       made = record { lives = burst.stays.lives; forks = burst.stays.forks; most = burst.stays.most; own = omega (arith, ap (λ s. s f.name.tty) burst.stays.serials); others = λ t ne. ap (λ s. s t) burst.stays.serials };
+      undone = λ none. absurd (omega (arith, none, counted, c.requires.some));
       fits = (tt, tt);
       needs = tt;
       core = λ flat. tt;
@@ -60,6 +61,7 @@ returns-in-Overflow-clause-ran g c at =
           );
       keeps = more_keeps f (ran_on f n regs) _ n 1 row (subst (λ h. Kept (ran_on f n regs) h 1) fork (ended_keeps (ran_on f n regs) regs burst.pc row.accumulators Overflow));
       made = record { lives = burst.stays.lives; forks = burst.stays.forks; most = burst.stays.most; own = omega (arith, ap (λ s. s f.name.tty) burst.stays.serials); others = λ t ne. ap (λ s. s t) burst.stays.serials };
+      undone = λ none. absurd (omega (arith, none));
       fits = ended.fits;
       needs = tt;
       core = λ flat. tt;
@@ -85,6 +87,7 @@ returns-in-Pushdown-clause-ran g c at =
           );
       keeps = more_keeps f (ran_on f n regs) _ n 1 row (subst (λ h. Kept (ran_on f n regs) h 1) fork (ended_keeps (ran_on f n regs) regs burst.pc row.accumulators Pushdown));
       made = record { lives = burst.stays.lives; forks = burst.stays.forks; most = burst.stays.most; own = omega (arith, ap (λ s. s f.name.tty) burst.stays.serials); others = λ t ne. ap (λ s. s t) burst.stays.serials };
+      undone = λ none. absurd (omega (arith, none));
       fits = ended.fits;
       needs = tt;
       core = λ flat. tt;
@@ -120,6 +123,7 @@ returns-in-Slow-clause-ran g c at =
         own = omega (arith, one.made.own, ap (λ s. s f.name.tty) burst.stays.serials);
         others = λ t ne. one.made.others t ne ∙ ap (λ s. s t) burst.stays.serials;
       };
+      undone = λ none. one.undone (omega (arith, none, count)) ∙ (burst.undone c.in-Slow.is (omega (arith, none, count))).1;
       fits = one.fits;
       needs = one.needs;
       core = one.core;
@@ -144,6 +148,7 @@ returns-then-is_interrupted-clause-ran g c at =
           (left.0, first_row f p h r one.keeps.name c.row_of.result.count last count whole);
       keeps = subst (Kept f h) (sym count) one.keeps;
       made = one.made;
+      undone = λ none. one.undone (sym count ∙ none);
       fits = one.fits;
       needs = one.needs;
       core = one.core;

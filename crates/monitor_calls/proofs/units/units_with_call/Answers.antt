@@ -196,7 +196,7 @@ returns-in-Err-clause-ran g c at b there =
     let now = c.units_to_call-row.new.pages in
     let made = subst (λ l. Makes means old now who.tty (makings_of l)) c.in-Calls.is ran.made in
     let waits = subst (λ x. CallWaits means now c.called.new.pages (record was { tree = x }) (with_tree was c.called.new.tree c.called.new.files c.called.new.typed.items) who c.in-Err.need) left c.in-Err.ensures.needs in
-    let stops = call_stops was is f lives body row.count ran.keeps means old now made c.requires.holds c.called.new.pages c.called.new.tree c.called.new.files c.called.new.typed.items c.in-Err.need (λ d fits. (let t = ran.told d fits in (t.0, (subst (IsRow f (means.plain old d) row.count mid (means.plain now d)) c.in-Calls.is t.1).0))) waits in
+    let stops = call_stops was is f lives body row.count ran.keeps means old now made ran.undone c.requires.holds c.called.new.pages c.called.new.tree c.called.new.files c.called.new.typed.items c.in-Err.need (λ d fits. (let t = ran.told d fits in (t.0, (subst (IsRow f (means.plain old d) row.count mid (means.plain now d)) c.in-Calls.is t.1).0))) waits in
     stops_ran means old c.called.new.pages was c.called.new.tree c.called.new.files c.called.new.typed.items f mid c.in-Err.need lives c.requires.job.unheld c.requires.job.typing_room row.count c.reach_of-reach.result c.done_before.result c.done_before.ensures stops
 
 pub returns-in-Err-clause-waits : goal.returns-in-Err-clause-waits
@@ -218,7 +218,7 @@ returns-in-Err-clause-waits g c at b there =
     let now = c.units_to_call-row.new.pages in
     let made = subst (λ l. Makes means old now who.tty (makings_of l)) c.in-Calls.is ran.made in
     let waits = subst (λ x. CallWaits means now c.called.new.pages (record was { tree = x }) (with_tree was c.called.new.tree c.called.new.files c.called.new.typed.items) who c.in-Err.need) left c.in-Err.ensures.needs in
-    let stops = call_stops was is f lives body row.count ran.keeps means old now made c.requires.holds c.called.new.pages c.called.new.tree c.called.new.files c.called.new.typed.items c.in-Err.need (λ d fits. (let t = ran.told d fits in (t.0, (subst (IsRow f (means.plain old d) row.count mid (means.plain now d)) c.in-Calls.is t.1).0))) waits in
+    let stops = call_stops was is f lives body row.count ran.keeps means old now made ran.undone c.requires.holds c.called.new.pages c.called.new.tree c.called.new.files c.called.new.typed.items c.in-Err.need (λ d fits. (let t = ran.told d fits in (t.0, (subst (IsRow f (means.plain old d) row.count mid (means.plain now d)) c.in-Calls.is t.1).0))) waits in
     stops_waits means old c.called.new.pages was c.called.new.tree c.called.new.files c.called.new.typed.items f mid c.in-Err.need lives c.requires.job.unheld c.requires.job.typing_room row.count c.reach_of-reach.result c.done_before.result c.done_before.ensures stops
 
 pub returns-in-Needs-clause-ran : goal.returns-in-Needs-clause-ran
@@ -241,7 +241,7 @@ returns-in-Needs-clause-ran g c at b there =
     let n = c.in-Needs.need in
     let made = subst (λ l. Makes means old now who.tty (makings_of l)) c.in-Needs.is ran.made in
     let stops = subst (λ x. StopsBehind means old now was x was.files was.typed f mid row.count n) (sym left)
-    (unit_stops was is f lives body row.count ran.keeps means old now made c.requires.holds n (λ d fits. (let t = ran.told d fits in (t.0, subst (IsRow f (means.plain old d) row.count mid (means.plain now d)) c.in-Needs.is t.1))) (subst (LastNeeds means.store now) c.in-Needs.is ran.needs)) in
+    (unit_stops was is f lives body row.count ran.keeps means old now made ran.undone c.requires.holds n (λ d fits. (let t = ran.told d fits in (t.0, subst (IsRow f (means.plain old d) row.count mid (means.plain now d)) c.in-Needs.is t.1))) (subst (LastNeeds means.store now) c.in-Needs.is ran.needs)) in
     stops_ran means old now was _ was.files was.typed f mid n lives c.requires.job.unheld c.requires.job.typing_room row.count Own c.done_before-in-Needs.result c.done_before-in-Needs.ensures stops
 
 pub returns-in-Needs-clause-waits : goal.returns-in-Needs-clause-waits
@@ -264,7 +264,7 @@ returns-in-Needs-clause-waits g c at b there =
     let n = c.in-Needs.need in
     let made = subst (λ l. Makes means old now who.tty (makings_of l)) c.in-Needs.is ran.made in
     let stops = subst (λ x. StopsBehind means old now was x was.files was.typed f mid row.count n) (sym left)
-    (unit_stops was is f lives body row.count ran.keeps means old now made c.requires.holds n (λ d fits. (let t = ran.told d fits in (t.0, subst (IsRow f (means.plain old d) row.count mid (means.plain now d)) c.in-Needs.is t.1))) (subst (LastNeeds means.store now) c.in-Needs.is ran.needs)) in
+    (unit_stops was is f lives body row.count ran.keeps means old now made ran.undone c.requires.holds n (λ d fits. (let t = ran.told d fits in (t.0, subst (IsRow f (means.plain old d) row.count mid (means.plain now d)) c.in-Needs.is t.1))) (subst (LastNeeds means.store now) c.in-Needs.is ran.needs)) in
     stops_waits means old now was _ was.files was.typed f mid n lives c.requires.job.unheld c.requires.job.typing_room row.count Own c.done_before-in-Needs.result c.done_before-in-Needs.ensures stops
 
 pub returns-in-Err-clause-core : goal.returns-in-Err-clause-core
