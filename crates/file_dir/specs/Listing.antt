@@ -1,5 +1,5 @@
--- A directory that is gone through, file by file.
-use Rattle.std.specs.Prelude.{◌≡◌, ◌↔◌, List, [], ◌∷◌, Option, Some, ℕ}
+-- Files that are gone through, one by one: those of a directory, or all.
+use Rattle.std.specs.Prelude.{◌≡◌, ◌↔◌, List, [], ◌∷◌, Option, Some, IfSome, ℕ}
 use Rattle.std.specs.List.{AllPairs, Contains}
 use Rattle.std.specs.FinMap as map
 use Rattle.machine_names.specs.declared.names.FileNo.{FileNo}
@@ -22,3 +22,14 @@ StandsBefore m f g = (a b : List ℕ) → map.get m f.0 ≡ Some a → map.get m
 pub record IsWhole (m : Files) (dir : List ℕ) (fs : List FileNo) : Type 0 where
   pub each : (f : FileNo) → IsFileOf m dir f ↔ Contains fs f
   pub in_order : AllPairs (StandsBefore m) fs
+
+-- a file whose name comes after that of another file, if one is given
+pub record ComesLater (m : Files) (after : Option FileNo) (f : ℕ) : Type 0 where
+  pub name : List ℕ
+  pub stands : map.get m f ≡ Some name
+  pub behind : IfSome after (λ a. IfSome (map.get m a.0) (λ before. ComesBefore before name))
+
+-- the first such file
+pub record IsFollowing (m : Files) (after : Option FileNo) (f : ℕ) : Type 0 where
+  pub comes : ComesLater m after f
+  pub first : (g : ℕ) (other : ComesLater m after g) → ComesBefore other.name comes.name → ⊥

@@ -1,8 +1,9 @@
 // The files that there are.
-ghost use Rattle.std.specs.Prelude.{◌≡◌, ◌<◌, ◌↔◌, ℕ, IfOk, IfSome, IsSome, IsTrue, MatchOption, MatchResult, Some};
+ghost use Rattle.std.specs.Prelude.{◌≡◌, ◌<◌, ◌≤◌, ◌↔◌, ℕ, IfOk, IfSome, IsSome, IsTrue, MatchOption, MatchResult, Some};
 ghost use Rattle.std.specs.FinMap as map;
 ghost use Rattle.machine_names.specs.Bounds.{IsFileName};
 ghost use Rattle.plain_files.specs.Directory.{AreFiles, ComesAfter, Creates, IsAbsent, IsNext};
+ghost use Rattle.file_dir.specs.Listing.{ComesLater, IsFollowing};
 
 use crate::order::{Names, count_before, place_behind, place_of};
 use crate::reading::joined;
@@ -129,5 +130,26 @@ impl Dir {
         let f = *self.order.get(place)?;
         let belongs = self.name_of(f).as_slice().starts_with(front.as_slice());
         belongs.then_some(f)
+    }
+
+    /// The first of all files whose full name comes after that of another file, which is there, or
+    /// the first of all where none is given; byte by byte. None exactly where there is none. Its
+    /// place is found by halves.
+    pub fn all(&self, after: Option<FileNo>) -> Option<FileNo>
+        requires { IfSome after (λ f. IsSome (map.get self.now f.0)) }
+        ensures { MatchOption result ((f : ℕ) → ComesLater self.now after f → ⊥)
+            (λ f. IsFollowing self.now after f.0) }
+    {
+        let place = place_behind(&self.order, &self.names, after);
+        let f = *self.order.get(place)?;
+        Some(f)
+    }
+
+    /// How many files there are.
+    pub fn count(&self) -> usize
+        ensures number { result ≡ map.len self.now }
+        ensures most { result ≤ MOST_FILES }
+    {
+        self.order.len()
     }
 }

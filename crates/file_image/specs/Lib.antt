@@ -1,3 +1,4 @@
 pub mod Parts
 pub mod Images
 pub mod Files
+pub mod Reading

@@ -9,3 +9,5 @@ pub mod Jobs
 pub mod Pages
 pub mod Counts
 pub mod Known
+pub mod Behind
+pub mod InOrder

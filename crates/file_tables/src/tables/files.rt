@@ -1,5 +1,5 @@
 // The files by name and by number.
-ghost use Rattle.std.specs.Prelude.{◌≡◌, ◌≤◌, ◌<◌, ◌↔◌, ℕ, IfSome, IsSome, IsTrue, MatchOption, None, Some};
+ghost use Rattle.std.specs.Prelude.{◌≡◌, ◌≤◌, ◌<◌, ◌↔◌, ℕ, IfSome, IsSome, IsTrue, MatchOption, None, Some, [], ◌∷◌};
 ghost use Rattle.std.specs.Option.{IsSomeAnd, option_map};
 ghost use Rattle.std.specs.FinMap as map;
 ghost use Rattle.machine_names.specs.Bounds.{IsFileName};
@@ -8,6 +8,7 @@ ghost use Rattle.machine_names.specs.declared.names.TheConstants.{MOST_FILES as 
 ghost use Rattle.plain_files.specs.Directory.{ComesAfter, Creates, IsNext};
 ghost use Rattle.plain_files.specs.NamedFiles.{name_of, number_of};
 ghost use Rattle.plain_files.specs.Sizes.{FitsFile, new_file};
+ghost use Rattle.file_tables.specs.InOrder.{files_after, name_given};
 ghost use Rattle.file_tables.specs.Tables.{IsThere, OpenStay, file_of, files_of, times_of};
 
 use crate::FileTables;
@@ -45,6 +46,27 @@ impl FileTables {
         ensures there { IfSome result (λ f. IsThere self.now f.0) }
     {
         self.dir.list(user, after)
+    }
+
+    /// The next of all files in the order of their names: the first whose full name comes after that
+    /// of another file, which is there, or the first of all where none is given. None exactly where
+    /// there is none. Its place is found by halves.
+    pub fn all(&self, after: Option<FileNo>) -> Option<FileNo>
+        requires { IfSome after (λ f. IsThere self.now f.0) }
+        ensures next { MatchOption result (files_after self.now (name_given self.now after) ≡ [])
+            (λ f. IsSomeAnd (file_of self.now f.0) (λ file. files_after self.now (name_given self.now after)
+            ≡ (name_of self.now.dir f.0, file) ∷ files_after self.now (Some (name_of self.now.dir f.0)))) }
+        ensures there { IfSome result (λ f. IsThere self.now f.0) }
+    {
+        self.dir.all(after)
+    }
+
+    /// How many files there are, at most 512.
+    pub fn count(&self) -> usize
+        ensures number { result ≡ map.len (files_of self.now) }
+        ensures most { result ≤ MOST }
+    {
+        self.dir.count()
     }
 
     /// Whether there may be one more file: below 512.
