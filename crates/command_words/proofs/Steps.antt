@@ -12,8 +12,12 @@ use Rattle.clap.specs.Faults.{bundle_fault, bundle_step_fault, flags_fault, posi
 use Rattle.std.specs.Prelude.{◌&&◌, if◌then◌else◌}
 use Rattle.std.specs.Option.{option_map_or}
 use Rattle.clap.specs.Kinds.{Kinds, or_else}
-use Rattle.command_words.specs.Words.{Given, Size, Text, a_seed, a_size, drum_size, frames_size, option_name, option_word}
+use Rattle.command_words.specs.Words.{Given, Size, Text, a_seed, a_size, drum_size, frames_size, option_name}
 use Rattle.command_words.specs.Parser.{kept_name, option_rule, run_app, seed_rule}
+
+-- the word of the option that sets a size
+abbrev pub option_word : Size → Text
+option_word size = codes "--" ++ option_name size
 
 -- the built command, and its options
 abbrev pub top : Shape

@@ -8,10 +8,10 @@ use Rattle.std.proofs.lemmas.Bool.{and_parts, not-true}
 use Rattle.clap.specs.Walk.{Held, Row, Walk, walked}
 use Rattle.clap.specs.Faults.{settle_fault, turn_fault, walk_fault}
 use Rattle.clap.specs.Kinds.{or_else}
-use Rattle.command_words.specs.Words.{Given, Setting, Size, Text, a_seed, a_size, alone, apart, drum_size, frames_size, given, given_by, is_same, joined, option_name, option_word, value_of, words_of}
+use Rattle.command_words.specs.Words.{Given, Setting, Size, Text, a_seed, a_size, alone, apart, drum_size, frames_size, given, given_by, is_same, joined, option_name, value_of, words_of}
 use Rattle.command_words.specs.Parser.{is_other, kept_name}
 use Rattle.command_words.proofs.Looks.{differ}
-use Rattle.command_words.proofs.Steps.{IsSeed, behind, between, cons≢nil, joined_fault, joined_walked, name_fault, name_walked, option_met, or_else-first, or_else-second, pending_fault, pending_settled, rules, seed_right, settled, top, use_wrong, value_right, value_walked, with_use, wrong}
+use Rattle.command_words.proofs.Steps.{IsSeed, behind, between, cons≢nil, joined_fault, joined_walked, name_fault, name_walked, option_met, option_word, or_else-first, or_else-second, pending_fault, pending_settled, rules, seed_right, settled, top, use_wrong, value_right, value_walked, with_use, wrong}
 use Rattle.command_words.proofs.Found.{Once, Once-front, Once-push, before_last, first_right, first_use, given-append, right_first, rows, same_itself}
 
 -- ---- where the walk stands: between two options, the last of which may wait to be noted, or behind a name

@@ -21,10 +21,6 @@ abbrev pub option_name : Size → Text
 option_name frames_size = codes "frames"
 option_name drum_size = codes "drum"
 
--- the word of the option that sets a size
-abbrev pub option_word : Size → Text
-option_word size = codes "--" ++ option_name size
-
 -- what words give: a size, or the seed of the generated script
 pub data Given : Type 0 where
   a_size : Size → Given
@@ -57,8 +53,8 @@ value_of (alone value) = value
 
 -- the words of a setting
 abbrev pub words_of : Setting → List Text
-words_of (apart size value) = option_word size ∷ value ∷ []
-words_of (joined size value) = (option_word size ++ (codes "=" ++ value)) ∷ []
+words_of (apart size value) = (codes "--" ++ option_name size) ∷ value ∷ []
+words_of (joined size value) = ((codes "--" ++ option_name size) ++ (codes "=" ++ value)) ∷ []
 words_of (alone value) = value ∷ []
 
 -- the values that are given of a size, or of the seed
@@ -90,9 +86,7 @@ AsksForDrum = AsksFor LEAST_DRUM_PAGES MOST_DRUM_PAGES STANDARD_DRUM_PAGES
 abbrev pub AsksForEvents : Text → List Text → EventSource → Type 0
 AsksForEvents name [] Script = name ≡ codes "run"
 AsksForEvents name (value ∷ []) (Generated seed) = (name ≡ codes "big") × IsDecimal 9 value seed
-AsksForEvents name [] (Generated seed) = ⊥
-AsksForEvents name (_ ∷ _) Script = ⊥
-AsksForEvents name (_ ∷ _ ∷ _) (Generated seed) = ⊥
+AsksForEvents name values events = ⊥
 
 -- the words are this first word and those of these settings, which ask for the run
 pub record AreBy (name : Text) (settings : List Setting) (words : List Text) (request : Request) : Type 0 where

@@ -182,14 +182,14 @@ module _ {M S T R D : Type 0} {flat : Bool} {fits : M → DrumWords → Type 0} 
       record {
         so_far = driven_to driven ran;
         transcript_is = ends.out;
-        record_is = grows_alone told.rec told.rec_after (entries_text ran.entries) ends.rec;
+        record_is = grows_alone told.before.rec told.after.rec (entries_text ran.entries) ends.rec;
       }
 
   -- the writer has counted what it was given
   counted : (driven : Driven) (last : Last) → last_after driven request.events told.reads told.writes ≡ Some last → (ran : Drove driven) → v.tally ≡ tally (ran.told words opens).items ran.entries
   counted driven last is ran = (stood driven last is ran).tallied fresh
 
-  whole_record : (events : EventSource) (entries : List Step) → Grows told.rec told.rec_after (entries_text entries ++ record_end (last_done events told.reads told.writes)) → Grows told.rec told.rec_after (record_text entries told.reads told.writes)
+  whole_record : (events : EventSource) (entries : List Step) → Grows told.before.rec told.after.rec (entries_text entries ++ record_end (last_done events told.reads told.writes)) → Grows told.before.rec told.after.rec (record_text entries told.reads told.writes)
   whole_record ReadScript entries grows = grows
   whole_record (Generated seed) entries grows = grows
 
@@ -201,7 +201,7 @@ module _ {M S T R D : Type 0} {flat : Bool} {fits : M → DrumWords → Type 0} 
     ends = finishes.each w shown ran.entries (stood WholeScript (last_done request.events told.reads told.writes) refl ran)
 
     -- the machine ran the events, where the transcript is this text of what it showed
-    run_of : (text : List Item → List Step → List ℕ) → Grows told.out told.out_after (text shown ran.entries) → IsRunOf ran.events text request.sizes.drum told
+    run_of : (text : List Item → List Step → List ℕ) → Grows told.before.out told.after.out (text shown ran.entries) → IsRunOf ran.events text request.sizes.drum told
     run_of text grows =
         let entries = runs_flat WholeScript ran in
         record {
@@ -209,7 +209,7 @@ module _ {M S T R D : Type 0} {flat : Bool} {fits : M → DrumWords → Type 0} 
           follows = entries.follows;
           legal = whole_legal entries;
           fair = entries.fair;
-          transcript_is = subst (λ items. Grows told.out told.out_after (text items ran.entries)) entries.shown grows;
+          transcript_is = subst (λ items. Grows told.before.out told.after.out (text items ran.entries)) entries.shown grows;
           record_is = whole_record request.events ran.entries ends.rec;
           spelled = all_spelled ran.events ran.fit;
           few = (omega (arith, ran.few), few_reads, few_writes);
@@ -219,19 +219,19 @@ module _ {M S T R D : Type 0} {flat : Bool} {fits : M → DrumWords → Type 0} 
     headline ReadScript is = record {
       events = ran.events;
       all = λ bytes left_are.
-          let found = (subst (λ e. AreRun e told.script told.script_after WholeScript ran.events) is ran.found).each bytes left_are in
+          let found = (subst (λ e. AreRun e told.before.script told.after.script WholeScript ran.events) is ran.found).each bytes left_are in
           let all : found.0 ≡ bytes = sym (found.2 ∙ (ap (λ rest. found.0 ++ rest) found.4.1 ∙ append-nil found.0)) in
           (subst (λ b. IsScript b ran.events) all found.4.0, found.3 ∙ ap Some found.4.1);
-      run = run_of (λ items entries. transcript items) (grows_alone told.out told.out_after (transcript shown) (subst (λ e. Grows told.out told.out_after (transcript shown ++ end_line (last_done e told.reads told.writes) v.tally)) is ends.out));
+      run = run_of (λ items entries. transcript items) (grows_alone told.before.out told.after.out (transcript shown) (subst (λ e. Grows told.before.out told.after.out (transcript shown ++ end_line (last_done e told.reads told.writes) v.tally)) is ends.out));
     }
     headline (Generated seed) is =
-        let found = subst (λ e. AreRun e told.script told.script_after WholeScript ran.events) is ran.found in
-        let line = subst (λ e. Grows told.out told.out_after (transcript shown ++ end_line (last_done e told.reads told.writes) v.tally)) is ends.out in
+        let found = subst (λ e. AreRun e told.before.script told.after.script WholeScript ran.events) is ran.found in
+        let line = subst (λ e. Grows told.before.out told.after.out (transcript shown ++ end_line (last_done e told.reads told.writes) v.tally)) is ends.out in
         let counts : v.tally ≡ tally shown ran.entries = counted WholeScript (last_done request.events told.reads told.writes) refl ran in
         record {
           unread = found.1;
           run = subst (λ es. IsRunOf es generated_transcript request.sizes.drum told) found.0
-              (run_of generated_transcript (subst (λ t. Grows told.out told.out_after (transcript shown ++ end_line (Summary told.reads told.writes) t)) counts line));
+              (run_of generated_transcript (subst (λ t. Grows told.before.out told.after.out (transcript shown ++ end_line (Summary told.reads told.writes) t)) counts line));
         }
 
   -- both texts were closed with their last lines
@@ -265,9 +265,9 @@ module _ {M S T R D : Type 0} {flat : Bool} {fits : M → DrumWords → Type 0} 
       record {
         driven = driven;
         so_far = driven_to driven ran;
-        transcript_front = subst (λ l. WrotePartly told.out told.out_after (transcript given.items ++ closing (λ x. end_line x (tally given.items ran.entries)) l)) (sym is)
-            (subst (λ t. WrotePartly told.out told.out_after (transcript given.items ++ end_line last t)) (counted driven last is ran) ends.out);
-        record_front = subst (λ l. WrotePartly told.rec told.rec_after (entries_text ran.entries ++ closing record_end l)) (sym is) ends.rec;
+        transcript_front = subst (λ l. WrotePartly told.before.out told.after.out (transcript given.items ++ closing (λ x. end_line x (tally given.items ran.entries)) l)) (sym is)
+            (subst (λ t. WrotePartly told.before.out told.after.out (transcript given.items ++ end_line last t)) (counted driven last is ran) ends.out);
+        record_front = subst (λ l. WrotePartly told.before.rec told.after.rec (entries_text ran.entries ++ closing record_end l)) (sym is) ends.rec;
       }
 
   -- the writer failed before the end
@@ -281,8 +281,8 @@ module _ {M S T R D : Type 0} {flat : Bool} {fits : M → DrumWords → Type 0} 
       record {
         driven = TakerFault;
         so_far = driven_to TakerFault ran;
-        transcript_front = subst (WrotePartly told.out told.out_after) items cut.out;
-        record_front = subst (WrotePartly told.rec told.rec_after) entries cut.rec;
+        transcript_front = subst (WrotePartly told.before.out told.after.out) items cut.out;
+        record_front = subst (WrotePartly told.before.rec told.after.rec) entries cut.rec;
       }
   cut_short WholeScript is ran keeps = absurd (cc is)
   cut_short (Bad n) is ran keeps = absurd (cc is)

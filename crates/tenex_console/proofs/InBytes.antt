@@ -25,12 +25,8 @@ told_grows xs ys bytes grows = let both : Some ys ≡ Some (xs ++ bytes) = grows
 module _ {Z : Type 0} (words : List (String Z)) (script : List ℕ) (left left' : Option (List ℕ)) (is_script : left ≡ Some script) (out out' rec rec' : MemSink) (drum drum' : SureDrum) where
   abbrev told : Observed
   told = record {
-    script = left;
-    script_after = left';
-    out = Some out.bytes.items;
-    out_after = Some out'.bytes.items;
-    rec = Some rec.bytes.items;
-    rec_after = Some rec'.bytes.items;
+    before = record { script = left; out = Some out.bytes.items; rec = Some rec.bytes.items };
+    after = record { script = left'; out = Some out'.bytes.items; rec = Some rec'.bytes.items };
     reads = drum'.held.reads - drum.held.reads;
     writes = drum'.held.writes - drum.held.writes;
   }

@@ -165,8 +165,8 @@ ran_asked told request events status is ran = subst (λ e. Ran (record { events 
 -- a generated script is never bad, and never too long
 pub never_judged : (request : Request) (told : Observed) (status : Status) → Ran request told status → (seed : ℕ) → request.events ≡ Generated seed → (status ≡ Script → ⊥) × (status ≡ LongScript → ⊥)
 never_judged request told status ran seed is = (
-  λ e. let bad = subst (Ran request told) e ran in (subst (λ source. AreRun source told.script told.script_after (Bad bad.0) bad.1.so_far.events) is bad.1.so_far.found).0,
-  λ e. let long = subst (Ran request told) e ran in (subst (λ source. AreRun source told.script told.script_after Long long.so_far.events) is long.so_far.found).0,
+  λ e. let bad = subst (Ran request told) e ran in (subst (λ source. AreRun source told.before.script told.after.script (Bad bad.0) bad.1.so_far.events) is bad.1.so_far.found).0,
+  λ e. let long = subst (Ran request told) e ran in (subst (λ source. AreRun source told.before.script told.after.script Long long.so_far.events) is long.so_far.found).0,
 )
 
 module _ {out out' rec rec' : Option (List ℕ)} where
@@ -183,7 +183,7 @@ module _ {out out' rec rec' : Option (List ℕ)} where
     usage_true NoMemory status (inr this) right is = absurd (cc (this.0, is))
 
     pub tells_stopped : (script : Option (List ℕ)) (reads writes : ℕ) (why : Unbegun) (status : Status) → Stops why out out' rec rec' status → IsTrueOf words pages why
-        → Tells words pages (record { script = script; script_after = script; out = out; out_after = out'; rec = rec; rec_after = rec'; reads = reads; writes = writes }) status
+        → Tells words pages (record { before = record { script = script; out = out; rec = rec }; after = record { script = script; out = out'; rec = rec' }; reads = reads; writes = writes }) status
     tells_stopped script reads writes why status (inr this) right =
         subst (Tells words pages _) (sym this.0) (inl (record { why = why; is_true = right; unread = λ xs h. h; transcript_front = this.1; record_stays = this.2 }))
     tells_stopped script reads writes WrongWords status (inl this) right =

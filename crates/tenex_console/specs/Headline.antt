@@ -41,15 +41,15 @@ pub record IsRunOf (events : List Event) (text : List Item → List Step → Lis
   pub follows : Follows events entries
   pub legal : AreLegal true (opening limit) entries
   pub fair : AreFair (opening limit) events entries follows
-  pub transcript_is : Grows told.out told.out_after (text (items_of (opening limit) entries) entries)
-  pub record_is : Grows told.rec told.rec_after (record_text entries told.reads told.writes)
+  pub transcript_is : Grows told.before.out told.after.out (text (items_of (opening limit) entries) entries)
+  pub record_is : Grows told.before.rec told.after.rec (record_text entries told.reads told.writes)
   pub spelled : All (λ e. (line : List ℕ) × Spells line e) events
   pub few : (length entries < 2 ^ 64) × (told.reads < 2 ^ 64) × (told.writes < 2 ^ 64)
 
 -- THE HEADLINE OF run: the events are those of the script, which is read to its end
 pub record RunsScript (limit : ℕ) (told : Observed) : Type 0 where
   pub events : List Event
-  pub all : (bytes : List ℕ) → told.script ≡ Some bytes → IsScript bytes events × (told.script_after ≡ Some [])
+  pub all : (bytes : List ℕ) → told.before.script ≡ Some bytes → IsScript bytes events × (told.after.script ≡ Some [])
   pub run : IsRunOf events (λ items entries. transcript items) limit told
 
 -- the transcript of a generated script: behind that of a script stands the line of its counts
@@ -58,7 +58,7 @@ generated_transcript items entries = transcript items ++ tally_line (tally items
 
 -- THE HEADLINE OF big: the events are those of the generated script, and no byte of the other is read
 pub record RunsGenerated (seed limit : ℕ) (told : Observed) : Type 0 where
-  pub unread : told.script_after ≡ told.script
+  pub unread : told.after.script ≡ told.before.script
   pub run : IsRunOf (big_events seed) generated_transcript limit told
 
 -- the headline, by whose events are asked for
@@ -80,7 +80,7 @@ pub record DrivenTo (driven : Driven) (request : Request) (told : Observed) : Ty
   pub events : List Event
   pub entries : List Step
   pub items : List Item
-  pub found : AreRun request.events told.script told.script_after driven events
+  pub found : AreRun request.events told.before.script told.after.script driven events
   pub follows : FollowsTo driven events entries
   pub legal : AreLegal true (opening request.sizes.drum) entries
   pub shown : ShowsTo driven request.sizes.drum events entries items
@@ -88,8 +88,8 @@ pub record DrivenTo (driven : Driven) (request : Request) (told : Observed) : Ty
 -- the texts of the run so far, and the line that tells how it stopped behind the transcript
 pub record Part (driven : Driven) (line : List ℕ) (request : Request) (told : Observed) : Type 0 where
   pub so_far : DrivenTo driven request told
-  pub transcript_is : Grows told.out told.out_after (transcript so_far.items ++ line)
-  pub record_is : Grows told.rec told.rec_after (entries_text so_far.entries)
+  pub transcript_is : Grows told.before.out told.after.out (transcript so_far.items ++ line)
+  pub record_is : Grows told.before.rec told.after.rec (entries_text so_far.entries)
 
 -- the last line of a text, if there is one
 abbrev pub closing : (Last → List ℕ) → Option Last → List ℕ
@@ -115,14 +115,14 @@ last_after TakerFault events reads writes = None
 pub record Fronts (request : Request) (told : Observed) : Type 0 where
   pub driven : Driven
   pub so_far : DrivenTo driven request told
-  pub transcript_front : WrotePartly told.out told.out_after (transcript so_far.items ++ closing (λ l. end_line l (tally so_far.items so_far.entries)) (last_after driven request.events told.reads told.writes))
-  pub record_front : WrotePartly told.rec told.rec_after (entries_text so_far.entries ++ closing record_end (last_after driven request.events told.reads told.writes))
+  pub transcript_front : WrotePartly told.before.out told.after.out (transcript so_far.items ++ closing (λ l. end_line l (tally so_far.items so_far.entries)) (last_after driven request.events told.reads told.writes))
+  pub record_front : WrotePartly told.before.rec told.after.rec (entries_text so_far.entries ++ closing record_end (last_after driven request.events told.reads told.writes))
 
 -- nothing was run, and the transcript is the line that tells why
 pub record Only (line : List ℕ) (told : Observed) : Type 0 where
-  pub unread : Stays told.script told.script_after
-  pub transcript_is : Grows told.out told.out_after line
-  pub record_stays : Stays told.rec told.rec_after
+  pub unread : Stays told.before.script told.after.script
+  pub transcript_is : Grows told.before.out told.after.out line
+  pub record_stays : Stays told.before.rec told.after.rec
 
 -- the status of a run that did not begin
 abbrev pub status_of : Unbegun → Status
@@ -144,6 +144,6 @@ Stops why out out' rec rec' status =
 pub record OnlyFront {Z : Type 0} (words : List (String Z)) (drum_pages : ℕ) (told : Observed) : Type 0 where
   pub why : Unbegun
   pub is_true : IsTrueOf words drum_pages why
-  pub unread : Stays told.script told.script_after
-  pub transcript_front : WrotePartly told.out told.out_after (closing_line (status_of why) 0)
-  pub record_stays : Stays told.rec told.rec_after
+  pub unread : Stays told.before.script told.after.script
+  pub transcript_front : WrotePartly told.before.out told.after.out (closing_line (status_of why) 0)
+  pub record_stays : Stays told.before.rec told.after.rec

@@ -4,15 +4,16 @@ use Rattle.outside.specs.Faults.{Rose}
 use Rattle.texts.specs.declared.last.Status.{Status}
 use Rattle.texts.specs.declared.last.Status.TheVariants.{DrumFault, ReadFault, WriteFault}
 
--- the bytes that are left of the script and those that both sinks have taken, where they are told, before and after;
--- and how often the drum was read and written in between
-pub record Observed : Type 0 where
+-- the bytes that are left of the script and those that both sinks have taken, where they are told
+pub record Texts : Type 0 where
   pub script : Option (List ℕ)
-  pub script_after : Option (List ℕ)
   pub out : Option (List ℕ)
-  pub out_after : Option (List ℕ)
   pub rec : Option (List ℕ)
-  pub rec_after : Option (List ℕ)
+
+-- the texts before and after, and how often the drum was read and written in between
+pub record Observed : Type 0 where
+  pub before : Texts
+  pub after : Texts
   pub reads : ℕ
   pub writes : ℕ
 
@@ -27,21 +28,17 @@ pub record Faults : Type 0 where
   pub drum : ℕ
   pub drum_after : ℕ
 
-module _ {S T R D : Type 0} where
-  -- what a source, two sinks and a drum tell before and after
-  abbrev pub seen : (S → Option (List ℕ)) → (T → Option (List ℕ)) → (R → Option (List ℕ)) → (reads writes : D → ℕ)
-      → (script script' : S) → (out out' : T) → (rec rec' : R) → (drum drum' : D) → Observed
-  seen left out_taken rec_taken reads writes script script' out out' rec rec' drum drum' = record {
-    script = left script;
-    script_after = left script';
-    out = out_taken out;
-    out_after = out_taken out';
-    rec = rec_taken rec;
-    rec_after = rec_taken rec';
-    reads = reads drum' - reads drum;
-    writes = writes drum' - writes drum;
-  }
+module _ {S T R D : Type 0} (left : S → Option (List ℕ)) (out_taken : T → Option (List ℕ)) (rec_taken : R → Option (List ℕ)) (reads writes : D → ℕ) where
+  -- what a source and two sinks tell
+  abbrev pub texts : S → T → R → Texts
+  texts script out rec = record { script = left script; out = out_taken out; rec = rec_taken rec }
 
+  -- what a source, two sinks and a drum tell before and after
+  abbrev pub seen : (script script' : S) → (out out' : T) → (rec rec' : R) → (drum drum' : D) → Observed
+  seen script script' out out' rec rec' drum drum' =
+      record { before = texts script out rec; after = texts script' out' rec'; reads = reads drum' - reads drum; writes = writes drum' - writes drum }
+
+module _ {S T R D : Type 0} where
   -- the counts of faults of a source, two sinks and a drum before and after
   abbrev pub faults : (S → ℕ) → (T → ℕ) → (R → ℕ) → (D → ℕ) → (script script' : S) → (out out' : T) → (rec rec' : R) → (drum drum' : D) → Faults
   faults of_script of_out of_rec of_drum script script' out out' rec rec' drum drum' = record {
