@@ -8,10 +8,10 @@ use texts::Status;
 
 /// How the program is used.
 const USAGE: &str = "\
-usage: tenex run [--frames N] [--drum N]
+usage: tenex run [--frames N] [--drum N] < SCRIPT
        tenex big SEED [--frames N] [--drum N]
-       tenex asm T
-       tenex replay [--drum N]
+       tenex asm T < PROGRAM
+       tenex replay [--drum N] < RECORD
   run: runs the console script on standard input; the transcript goes to standard output, and the record to the
   file tenex.record in the current folder, which is made anew
   big: runs the script that is generated from the seed, a number of 1 to 9 digits, in the same way, and prints
