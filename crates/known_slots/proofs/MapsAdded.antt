@@ -164,7 +164,7 @@ module _ {P S : Type 0} (store : StoreMeaning S) (part : P → S) (beside : P �
         adds = adds_map;
         own = λ home is. (let z : Some a.home.0 ≡ Some home = sym (own_home store (part old) (part new) (beside old) (beside new) fork map kept' a) ∙ is in
             let same : a.home.0 ≡ home = cc z in ap (place (store.homes (part old))) (sym same) ∙ a.made.was_free);
-        beside = record { queued = a.made.queued; holds = a.made.holds };
+        beside = record { queued = record { queue = a.made.queued.queue; untold = a.made.queued.untold }; holds = a.made.holds };
         lives = λ f. ap (λ (x : Beside). lives_in x f) a.beside ∙ fork_lives (beside old) numbered a.number fork a.home a.below a.absent a.unused a.from a.last f;
         forks = ap (λ (x : Beside). forks_in x fork.tty) a.beside ∙ forks_more (beside old) numbered a.number fork a.home a.below a.absent a.unused a.from a.last;
         others = λ t ne. ap (λ (x : Beside). forks_in x t) a.beside ∙ forks_others (beside old) numbered a.number fork a.home a.below a.absent a.unused a.from a.last t ne;
