@@ -1,13 +1,15 @@
 // Jumps and skips on conditions.
-ghost use Rattle.std.specs.Prelude.{◌+◌, ◌^◌, ◌<◌};
+ghost use Rattle.std.specs.Prelude.{◌≡◌, ◌+◌, ◌^◌, ◌<◌, if◌then◌else◌, nat_lt};
 ghost use Rattle.ka10_table.specs.declared.families.Family.TheVariants as family;
 ghost use Rattle.ka10_table.specs.declared.families.OpMode.TheVariants.{Basic};
 ghost use Rattle.plain_units.specs.Deeds.{counts, in_ac};
 ghost use Rattle.ka10_deeds.specs.Acts.{one};
 ghost use Rattle.ka10_deeds.specs.Done.{Leaves};
+ghost use Rattle.ka10_deeds.specs.KnownSums.{carried, counted_to};
 
 use crate::done::{Done, Post};
 use crate::has_deed::HasDeed;
+use crate::known_sums::{word_above, word_below};
 use crate::registers::{give_own, jump_if, set, skip_if, word_in};
 use ka10_alu::{add, holds};
 use plain_units::Regs;
@@ -58,6 +60,44 @@ impl HasDeed for JumpSkip {
     }
 }
 
+/// The word that is counted: AC where the code is below 8, else the operand.
+#[inline(always)]
+fn counted(code: u8, regs: &Regs, ac: u8, m: Word) -> Word
+    requires ac { ac < 16 }
+    ensures { result ≡ (if nat_lt code 8 then in_ac regs.now ac else m) }
+{
+    if code < 8 { word_in(regs, ac) } else { m }
+}
+
+/// A count comes to a word, and sets no flag.
+#[inline(always)]
+fn leave_counted(code: u8, regs: &mut Regs, ac: u8, e: u32, word: Word) -> Done
+    requires code { code < 16 }
+    requires pc { regs.old.pc < 2 ^ 18 }
+    requires ac { ac < 16 }
+    requires e { e < 2 ^ 18 }
+    ensures { Leaves (counted_to code regs.old ac e word) ac regs.old regs.new result }
+{
+    if code < 8 {
+        regs.pc = jump_if(holds(code, word.signed()), regs, e);
+        regs.ac[ac as usize] = word;
+        Done::NOTHING
+    } else {
+        regs.pc = skip_if(holds(code - 8, word.signed()), regs);
+        give_own(regs, ac, word);
+        Done::storing(word)
+    }
+}
+
+/// Both carries are set.
+#[inline(always)]
+fn set_carries(regs: &mut Regs)
+    ensures { regs.new ≡ carried regs.old }
+{
+    regs.flags.carry0 = true;
+    regs.flags.carry1 = true;
+}
+
 /// A word is added to AC or to the operand, with the flags of ADD.
 #[inline(always)]
 fn do_count(by: Word, code: u8, regs: &mut Regs, ac: u8, e: u32, m: Word) -> Done
@@ -102,7 +142,10 @@ impl HasDeed for AddOne {
     #[inline(always)]
     #[tactic(auto, unfolding(plain_units::specs::Deeds::deed_of))]
     fn do_deed(self, regs: &mut Regs, ac: u8, e: u32, last: Word, m: Word) -> Done {
-        do_count(Word::wrapped(1), self.code, regs, ac, e, m)
+        match word_above(counted(self.code, regs, ac, m)) {
+            Some(word) => leave_counted(self.code, regs, ac, e, word),
+            None => do_count(Word::wrapped(1), self.code, regs, ac, e, m),
+        }
     }
 }
 
@@ -120,6 +163,12 @@ impl HasDeed for SubOne {
     #[inline(always)]
     #[tactic(auto, unfolding(plain_units::specs::Deeds::deed_of))]
     fn do_deed(self, regs: &mut Regs, ac: u8, e: u32, last: Word, m: Word) -> Done {
-        do_count(Word::wrapped(Word::MASK), self.code, regs, ac, e, m)
+        match word_below(counted(self.code, regs, ac, m)) {
+            Some(word) => {
+                set_carries(regs);
+                leave_counted(self.code, regs, ac, e, word)
+            }
+            None => do_count(Word::wrapped(Word::MASK), self.code, regs, ac, e, m),
+        }
     }
 }

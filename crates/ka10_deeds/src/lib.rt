@@ -9,6 +9,7 @@ mod conditions;
 mod done;
 mod has_deed;
 mod jumps;
+mod known_sums;
 mod moves;
 mod operands;
 mod operations;
@@ -34,5 +35,7 @@ pub use program_words::{flags_of, half_of_flags, pc_word};
 pub use registers::word_in;
 pub use rows::do_row;
 pub use stacks::{Popj, PushPop, Pushj, pushed};
-pub use word_fields::{Address, MOST_WORDS, ac_field, is_executive, is_indirect, opcode, step_of};
+pub use word_fields::{
+    Address, MOST_WORDS, ac_field, is_executive, is_indirect, is_plain, opcode, step_of,
+};
 pub use words::{Blt, Boolean, Exch, Half, Test};

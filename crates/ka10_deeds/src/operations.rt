@@ -1,6 +1,7 @@
 // Operations in modes: sums, products, quotients, shifts.
-ghost use Rattle.std.specs.Prelude.{ℕ, ◌^◌, ◌<◌, Some, None};
-ghost use Rattle.word36.specs.Arithmetic.{IsArithmetic, arithmetic};
+ghost use Rattle.std.specs.Prelude.{◌≡◌, ℕ, ◌+◌, ◌^◌, ◌<◌, ◌≤◌, Some, None, MatchOption};
+ghost use Rattle.word36.specs.declared.opcodes.TheConstants.{ADD, SUB};
+ghost use Rattle.word36.specs.Arithmetic.{IsArithmetic, arithmetic, moved};
 ghost use Rattle.word36.specs.Shifts.{IsShift};
 ghost use Rattle.plain_units.specs.Deeds.{behind_ac, in_ac, operated};
 ghost use Rattle.ka10_deeds.specs.Acts.{IsOperation, IsShiftOfWords};
@@ -8,11 +9,13 @@ ghost use Rattle.ka10_deeds.specs.Done.{Leaves, outcome_of};
 
 use crate::done::{Done, Post};
 use crate::has_deed::HasDeed;
-use crate::registers::{behind, give, give_next, next, set, stored_in, word_in};
+use crate::known_sums::positive_sum;
+use crate::registers::{behind, give, give_next, leave_result, next, set, stored_in, word_in};
 use ka10_alu::{Out, arith, shift};
 use ka10_table::{OpMode, TableRow};
 use plain_units::Regs;
 use word36::Word;
+use word36::opcodes::{ADD, SUB};
 
 /// What an operation gave, in its mode.
 #[inline(always)]
@@ -46,6 +49,18 @@ fn leave_undone(regs: &mut Regs) -> Done
     }
 }
 
+/// The sum of ADD, where no flag comes of it. None where it isn't ADD, and where the words come to 2^35 or more.
+#[inline(always)]
+#[tactic(auto, unfolding(word36::specs::Arithmetic::arithmetic))]
+fn plain_sum(op: u16, a: Word, m: Word) -> Option<Word>
+    ensures { MatchOption result ((ADD ≤ op) → (op < SUB) → 2 ^ 35 ≤ a + m) (λ word. (a1 : ℕ) → arithmetic op a a1 m ≡ Some (moved word)) }
+{
+    match op {
+        ADD..SUB => positive_sum(a, m),
+        _ => None,
+    }
+}
+
 /// An operation on the accumulator and the operand, in one of its modes.
 #[inline(always)]
 pub fn do_operation(mode: OpMode, op: u16, regs: &mut Regs, ac: u8, e: u32, m: Word) -> Done
@@ -54,6 +69,9 @@ pub fn do_operation(mode: OpMode, op: u16, regs: &mut Regs, ac: u8, e: u32, m: W
     requires ac { ac < 16 }
     ensures { Leaves (operated mode regs.old ac e (arithmetic op (in_ac regs.old ac) (in_ac regs.old (behind_ac ac)) m)) ac regs.old regs.new result }
 {
+    if let Some(word) = plain_sum(op, word_in(regs, ac), m) {
+        return leave_result(mode, regs, ac, e, word);
+    }
     match arith(op, word_in(regs, ac), word_in(regs, behind(ac)), m) {
         Some(out) => leave_out(mode, regs, ac, e, out),
         None => leave_undone(regs),

@@ -1,5 +1,5 @@
 // The steps of deeds: the program counter, flags, accumulators.
-ghost use Rattle.std.specs.Prelude.{◌≡◌, ℕ, ◌+◌, ◌^◌, ◌<◌, if◌then◌else◌};
+ghost use Rattle.std.specs.Prelude.{◌||◌, ◌≡◌, ℕ, ◌+◌, ◌^◌, ◌<◌, if◌then◌else◌};
 ghost use Rattle.plain_units.specs.Deeds.{behind_ac, by_mode, in_ac, next_pc, set_with, skip_pc, to_ac, to_e, to_next, unless_zero};
 ghost use Rattle.plain_units.specs.Instructions.{with_word};
 ghost use Rattle.ka10_deeds.specs.Done.{Leaves, stored_word};
@@ -69,17 +69,27 @@ pub fn word_in(regs: &Regs, ac: u8) -> Word
     regs.ac[ac as usize]
 }
 
+/// A flag is set, where it is to be.
+#[inline(always)]
+fn raise(flag: &mut bool, by: bool)
+    ensures { flag.new ≡ (flag.old || by) }
+{
+    if by {
+        *flag = true;
+    }
+}
+
 /// Flags are set, and others stay.
 #[inline(always)]
 pub fn set(regs: &mut Regs, flags: Flags)
     ensures { regs.new ≡ record regs.old { flags = set_with regs.old.flags flags } }
 {
-    regs.flags.overflow |= flags.overflow;
-    regs.flags.carry0 |= flags.carry0;
-    regs.flags.carry1 |= flags.carry1;
-    regs.flags.fov |= flags.fov;
-    regs.flags.bis |= flags.bis;
-    regs.flags.nodiv |= flags.nodiv;
+    raise(&mut regs.flags.overflow, flags.overflow);
+    raise(&mut regs.flags.carry0, flags.carry0);
+    raise(&mut regs.flags.carry1, flags.carry1);
+    raise(&mut regs.flags.fov, flags.fov);
+    raise(&mut regs.flags.bis, flags.bis);
+    raise(&mut regs.flags.nodiv, flags.nodiv);
 }
 
 /// A word goes to an accumulator that isn't accumulator 0.

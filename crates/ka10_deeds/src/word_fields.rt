@@ -1,6 +1,6 @@
 // The fields of an instruction word, and one step of an effective address: what a unit in place and a unit that is
 // planned both go by.
-ghost use Rattle.std.specs.Prelude.{◌≡◌, ◌<◌};
+ghost use Rattle.std.specs.Prelude.{◌≡◌, ◌<◌, ◌&&◌, ◌==◌, not};
 ghost use Rattle.plain_units.specs.Addressing as word_fields;
 ghost use Rattle.plain_units.specs.Instructions as instructions;
 ghost use Rattle.machine_names.specs.Bounds.{IsAddress};
@@ -26,7 +26,7 @@ pub fn opcode(word: Word) -> u16
     ensures value { result ≡ word_fields.opcode word }
     ensures below { result < 512 }
 {
-    (word.left() >> 9) as u16
+    (word.value() >> 27) as u16
 }
 
 /// AC: the accumulator that an instruction word names, bits 9 to 12.
@@ -36,6 +36,14 @@ pub fn ac_field(word: Word) -> u8
     ensures below { result < 16 }
 {
     (word.left() >> 5 & 0o17) as u8
+}
+
+/// Whether I and X are both 0, so that the address is Y.
+#[inline(always)]
+pub fn is_plain(word: Word) -> bool
+    ensures { result ≡ (not (word_fields.is_indirect word) && (word_fields.index_field word == 0)) }
+{
+    word.value() % (1 << 23) < 1 << 18
 }
 
 /// I: whether the address is that of the word that gives the next one.

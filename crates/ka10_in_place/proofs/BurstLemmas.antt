@@ -1,5 +1,5 @@
 -- Bursts, unit by unit.
-use Rattle.std.proofs.Common.{◌≡◌, ℕ, ◌+◌, ◌<◌, ◌^◌, Some, None, refl, sym, ◌∙◌, ap, subst, add-one}
+use Rattle.std.proofs.Common.{◌≡◌, ℕ, ◌+◌, ◌<◌, ◌^◌, Some, None, refl, sym, ◌∙◌, ap, subst, add-one, arith}
 use Rattle.std.specs.Ordering.{nat_cmp}
 use Rattle.plain_units.specs.declared.registers.Regs.{Regs}
 use Rattle.page_contracts.specs.declared.answers.SpaceHandle.{SpaceHandle}
@@ -15,7 +15,7 @@ use Rattle.ka10_in_place.specs.declared.fetch_page.FetchPage.{FetchPage}
 use Rattle.ka10_in_place.specs.InPlace.{IfDone, InPlace}
 use Rattle.ka10_in_place.specs.Fetches.{CanExecute, FetchedUnit, IsThere}
 use Rattle.ka10_in_place.specs.Bursts.{InRow, SoFar, and_one_more}
-use Rattle.ka10_spots.proofs.Used.{of_fork, plain_is, stays_on, stays_put}
+use Rattle.ka10_spots.proofs.Used.{of_fork, stays_on, stays_put}
 use Rattle.ka10_in_place.proofs.Finishing.{if_more}
 use Rattle.ka10_spots.proofs.Stored.{lost_none, lost_on}
 use Rattle.ka10_in_place.proofs.Fetching.{has_none}
@@ -46,6 +46,7 @@ module _ {P : Type 0} (means : PagesMeaning P) (space : SpaceHandle) where
     loses = lost_none means s;
     pc = pc;
     accumulators = refl;
+    none = λ none. (refl, refl);
   }
 
   module _ (old s t : P) (regs r after : Regs) (first page : FetchPage) (n : ℕ) (before : SoFar means space old s regs r first n) where
@@ -65,6 +66,7 @@ module _ {P : Type 0} (means : PagesMeaning P) (space : SpaceHandle) where
       loses = lost_on means old s t before.loses i.loses;
       pc = i.pc;
       accumulators = i.accumulators ∙ before.accumulators;
+      none = λ none. absurd (omega (arith, none));
     }
 
     module _ (most : ℕ) (less : n < most) where
@@ -77,6 +79,7 @@ module _ {P : Type 0} (means : PagesMeaning P) (space : SpaceHandle) where
         loses = lost_on means old s t before.loses i.loses;
         pc = i.pc;
         accumulators = i.accumulators ∙ before.accumulators;
+        undone = λ slow. absurd (cc slow);
       }
 
       pub ends_pushdown : InPlace means space (FetchedUnit r first page) s t r after quick.Pushdown → InRow means space most old t regs after (record { units = n; end = end.Pushdown })
@@ -88,6 +91,7 @@ module _ {P : Type 0} (means : PagesMeaning P) (space : SpaceHandle) where
         loses = lost_on means old s t before.loses i.loses;
         pc = i.pc;
         accumulators = i.accumulators ∙ before.accumulators;
+        undone = λ slow. absurd (cc slow);
       }
 
       pub ends_slow : InPlace means space (FetchedUnit r first page) s t r after quick.Slow → InRow means space most old t regs after (record { units = n; end = end.Slow })
@@ -95,12 +99,13 @@ module _ {P : Type 0} (means : PagesMeaning P) (space : SpaceHandle) where
           let same = i.slow refl in
           rw same.0 (record {
             count = less;
-            told = λ d f fits is. before.told d f fits is ∙ ap (λ (p : NumberedPages). Some (record { pages = p; regs = r; post = None })) (sym (plain_is means space s t same.1 d));
+            told = λ d f fits is. before.told d f fits is ∙ ap (λ (p : P). Some (record { pages = means.plain p d; regs = r; post = None })) (sym same.1);
             fits = λ d fits. i.fits d (before.fits d fits);
             stays = stays_on means old s t before.stays i.stays;
             loses = lost_on means old s t before.loses i.loses;
             pc = before.pc;
             accumulators = before.accumulators;
+            undone = λ slow none. (let nothing = before.none none in (nothing.0, same.1 ∙ nothing.1));
           })
 
   pub ends_most : (old s : P) (regs r : Regs) (page : FetchPage) (most n : ℕ) → n ≡ most → SoFar means space old s regs r page n → InRow means space most old s regs r (record { units = most; end = end.Most })
@@ -112,4 +117,5 @@ module _ {P : Type 0} (means : PagesMeaning P) (space : SpaceHandle) where
     loses = before.loses;
     pc = before.pc;
     accumulators = before.accumulators;
+    undone = λ slow. absurd (cc slow);
   }

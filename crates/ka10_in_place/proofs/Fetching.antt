@@ -1,5 +1,5 @@
 -- Fetches from a page that was found, and what a unit leaves of it.
-use Rattle.std.proofs.Common.{◌≡◌, ℕ, ◌+◌, ◌/◌, ◌%◌, true, false, cond, List, Option, None, Some, refl, sym, ◌∙◌, ap, arith}
+use Rattle.std.proofs.Common.{◌≡◌, ℕ, ◌+◌, ◌/◌, ◌%◌, true, false, cond, List, Option, None, Some, refl, sym, ◌∙◌, ap, subst, arith}
 use Rattle.std.specs.Ordering.{nat_cmp}
 use Rattle.outside.specs.declared.TheConstants.{PAGE_WORDS}
 use Rattle.machine_names.specs.declared.names.ForkName.{ForkName}
@@ -19,12 +19,21 @@ use Rattle.plain_units.specs.Instructions.{instruction}
 use Rattle.std.specs.Prelude.{nat_le}
 use Rattle.ka10_in_place.specs.declared.fetch_page.FetchPage.{FetchPage}
 use Rattle.ka10_spots.specs.Once.{After, once}
-use Rattle.ka10_spots.specs.Glide.{makes_none, is_ready, word_of, glide, Takes, Addressed}
+use Rattle.ka10_spots.specs.Glide.{makes_none, is_ready, word_of, glide, Addressed, Takes}
 use Rattle.ka10_in_place.specs.InPlace.{Addressee}
-use Rattle.ka10_in_place.specs.Fetches.{Has, IsThere, CanExecute}
+use Rattle.ka10_in_place.specs.Fetches.{Has, IsThere, CanExecute, Executes}
 use Rattle.ka10_spots.proofs.Stored.{makings_stored}
 use Rattle.ka10_in_place.proofs.Gliding.{through, once_glides}
 use Rattle.ka10_in_place.proofs.Units.{unit_glides}
+
+-- an instruction word with its fields, its address and the rest of its unit
+pub executes : (f : ForkName) (p : NumberedPages) (regs : Regs) (w op ac e last : ℕ) (a : After nat_cmp) → op ≡ opcode w → ac ≡ ac_field w → Addressed f p regs.ac 1 13 w e last → Addressee op regs ac e last f p a → Executes regs w f p a
+executes f p regs w op ac e last a is_op is_ac at rest = record {
+  e = e;
+  last = last;
+  address = at;
+  rest = subst (λ (o : ℕ). Addressee o regs (ac_field w) e last f p a) is_op (subst (λ (x : ℕ). Addressee op regs x e last f p a) is_ac rest);
+}
 
 -- a page of no addresses
 pub has_none : {A : Type 0} (page : FetchPage) (at : ℕ) → page.length ≡ 0 → Has page at → A
@@ -59,8 +68,7 @@ module _ (f : ForkName) (p : NumberedPages) where
     ready_glided (calls number) n h = absurd (cc h)
 
   -- a unit behind its fetch leaves words that can be fetched
-  pub unit_fetched : (regs : Regs) (w op ac e last : ℕ) (a : After nat_cmp) (page : FetchPage) → CanExecute f p page → Takes f p regs.ac regs.pc Execute w → op ≡ opcode w → ac ≡ ac_field w
-      → Addressed f p regs.ac 1 13 w e last → Addressee op regs ac e last f p a → CanExecute f a.pages page × (once f p regs ≡ Some a)
-  unit_fetched regs w op ac e last a page can takes is_op is_ac at rest =
-      let done = unit_glides f p regs w op ac e last a takes is_op is_ac at rest in
+  pub unit_fetched : (regs : Regs) (w : ℕ) (a : After nat_cmp) (page : FetchPage) → CanExecute f p page → Takes f p regs.ac regs.pc Execute w → Executes regs w f p a → CanExecute f a.pages page × (once f p regs ≡ Some a)
+  unit_fetched regs w a page can takes executes =
+      let done = unit_glides f p regs w executes.e executes.last a takes executes.address executes.rest in
       (λ b has. ready_glided regs.ac a b Execute (instruction regs) 0 done ∙ can b has, once_glides f p regs a done)

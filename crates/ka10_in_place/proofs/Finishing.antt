@@ -21,7 +21,7 @@ use Rattle.ka10_deeds.specs.Done.{Leaves, channel_of, store_at, stored_word}
 use Rattle.ka10_deeds.specs.declared.operands.Destination.TheVariants as destination
 use Rattle.ka10_spots.proofs.Ready.{is_low, is_high, few}
 use Rattle.ka10_spots.specs.Glide.{is_ready, glide, Takes}
-use Rattle.ka10_in_place.specs.InPlace.{IfDone, ended}
+use Rattle.ka10_in_place.specs.InPlace.{IfDone, IsDone, ended}
 use Rattle.ka10_in_place.specs.Stores.{IsNowhere, GoesTo}
 
 -- a fact of the post holds of the unit that ended with it
@@ -44,6 +44,11 @@ for_all quick.Pushdown P f = f _
 for_all quick.Slow P f = tt
 
 -- a unit that ended was done
+pub is_done : (post : Post) (q : Quick) → q ≡ ended post → IsDone q
+is_done post.Nothing q is = rw is tt
+is_done post.Overflow q is = rw is tt
+is_done post.Pushdown q is = rw is tt
+
 pub never_slow : {A : Type 0} (post : Post) → ended post ≡ quick.Slow → A
 never_slow post.Nothing h = absurd (cc h)
 never_slow post.Overflow h = absurd (cc h)

@@ -28,12 +28,12 @@ use Rattle.ka10_spots.specs.Glide.{is_ready, glide}
 use Rattle.ka10_in_place.specs.Targets.{unstored, target_of, place_of}
 use Rattle.ka10_in_place.proofs.Storing.{stores_at, stored_nowhere, stored_to}
 use Rattle.ka10_spots.specs.Once.{After}
-use Rattle.ka10_in_place.specs.InPlace.{Does, IsOwnRow, deed_in, taken_in, IfDone, InPlace, Finish, Addressee, is_addressed, is_deed, behind_address, ended}
+use Rattle.ka10_in_place.specs.InPlace.{Does, IsOwnRow, deed_in, taken_in, IfDone, InPlace, Finish, Addressee, IsDone, is_addressed, is_deed, behind_address, ended}
 use Rattle.ka10_spots.specs.Spots.{Stored, StoredIf}
 use Rattle.ka10_in_place.specs.Stores.{IsNowhere, GoesTo, IsOperand}
 use Rattle.ka10_spots.proofs.Stored.{lost_none, lost_on}
-use Rattle.ka10_spots.proofs.Used.{holds_still, of_fork, plain_is, stays_on, stays_put, uses_none, uses_on}
-use Rattle.ka10_in_place.proofs.Finishing.{if_ended, never_slow, for_all, ends_bare, ends_low, ends_high, takes_none, takes_some, no_word}
+use Rattle.ka10_spots.proofs.Used.{holds_still, of_fork, plain_is, stays_on, stays_put}
+use Rattle.ka10_in_place.proofs.Finishing.{if_ended, is_done, never_slow, for_all, ends_bare, ends_low, ends_high, takes_none, takes_some, no_word}
 
 -- no accumulator more or less
 pub length_with : (ac : List ℕ) (i : ℕ) (w : Option ℕ) → length (with_word ac i w) ≡ length ac
@@ -43,16 +43,17 @@ length_with ac i (Some w) = length-set ac i w
 module _ {P : Type 0} (means : PagesMeaning P) where
   module _ (space : SpaceHandle) where
     -- what isn't done here
-    pub used_in_place : (does : Does) (s t : P) (regs : Regs) → OnlyUses means s t → regs.pc < 2 ^ 18 → InPlace means space does s t regs regs quick.Slow
-    used_in_place does s t regs u pc = record { slow = λ h. (refl, u); told = λ d f fits is. tt; fits = λ d fits. (u.fits d).0 fits; stays = u.put; loses = u.loses; pc = pc; accumulators = refl }
-
     pub slow_in_place : (does : Does) (s : P) (regs : Regs) → regs.pc < 2 ^ 18 → InPlace means space does s s regs regs quick.Slow
-    slow_in_place does s regs pc = used_in_place does s s regs (uses_none means s) pc
+    slow_in_place does s regs pc =
+        record { slow = λ h. (refl, refl); told = λ d f fits is. tt; fits = λ d fits. fits; stays = stays_put means s; loses = lost_none means s; pc = pc; accumulators = refl }
+
+    pub unused_in_place : (does : Does) (s t : P) (regs : Regs) → t ≡ s → regs.pc < 2 ^ 18 → InPlace means space does s t regs regs quick.Slow
+    unused_in_place does s t regs same pc = rw same (slow_in_place does s regs pc)
 
     -- what is done behind uses of pages is done from the pages before them
-    pub in_place_behind : (does : Does) (r s t : P) (regs after : Regs) (q : Quick) → OnlyUses means r s → InPlace means space does s t regs after q → InPlace means space does r t regs after q
-    in_place_behind does r s t regs after q u i = record {
-      slow = λ h. (let k = i.slow h in (k.0, uses_on means r s t u k.1));
+    pub in_place_behind : (does : Does) (r s t : P) (regs after : Regs) (q : Quick) → OnlyUses means r s → IsDone q → InPlace means space does s t regs after q → InPlace means space does r t regs after q
+    in_place_behind does r s t regs after q u done i = record {
+      slow = λ h. absurd (subst IsDone h done);
       told = λ d f fits is. subst (λ (p : NumberedPages). IfDone q (λ post. does f p (record { pages = means.plain t d; regs = after; post = post }))) (plain_is means space r s u d) (i.told d f ((u.fits d).0 fits) (of_fork means space r s f u.put is));
       fits = λ d fits. i.fits d ((u.fits d).0 fits);
       stays = stays_on means r s t u.put i.stays;
@@ -115,7 +116,7 @@ module _ {P : Type 0} (means : PagesMeaning P) where
       pub finish_behind : (r s t : P) (end : Regs) (to : ℕ) → GoesTo to deed.store → ((d : DrumWords) (f : ForkName) → means.fits r d → means.space r f ≡ Some space → is_ready f (means.plain r d) to Write ≡ true)
           → OnlyUses means r s → StoredIf means space to told.stored s t after end → InPlace means space (Finish regs ac deed) r t regs end q
       finish_behind r s t end to at ready u put =
-          in_place_behind (Finish regs ac deed) r s t regs end q u (finish_at_in_place s t end to at (holds_still means space r s u (λ f p. is_ready f p to Write ≡ true) ready) put)
+          in_place_behind (Finish regs ac deed) r s t regs end q u (is_done told.post q is_q) (finish_at_in_place s t end to at (holds_still means space r s u (λ f p. is_ready f p to Write ≡ true) ready) put)
 
 -- an instruction that does a deed has an address, and takes a word at most
 deed_addressed : (family : Family) (row : TableRow) (op : ℕ) (regs : Regs) (ac e last : ℕ) → is_deed family ac ≡ true → (is_addressed family ac ≡ true) × (behind_address family row op regs ac e last ≡ does row op regs ac e last)

@@ -1,5 +1,5 @@
 -- Units in place, from the fetch on.
-use Rattle.std.proofs.Common.{◌≡◌, ℕ, Bool, true, false, cond, not, Some, refl, ◌∙◌, ap, subst, arith}
+use Rattle.std.proofs.Common.{◌≡◌, ℕ, Bool, true, false, cond, not, Some, refl, ◌∙◌, ap, arith}
 use Rattle.std.specs.Ordering.{nat_cmp}
 use Rattle.ka10_table.specs.declared.families.Family.{Family}
 use Rattle.ka10_table.specs.declared.families.Family.TheVariants.{Illegal, Local, Monitor, Jrst, Xct}
@@ -31,14 +31,11 @@ executes_addressed Jrst row regs w next h = by (is_executive (ac_field w)) h
 executes_addressed family row regs w next h = refl
 
 -- a unit is its fetch, its address, and the rest
-pub unit_glides : (f : ForkName) (p : NumberedPages) (regs : Regs) (w op ac e last : ℕ) (a : After nat_cmp) → Takes f p regs.ac regs.pc Execute w → op ≡ opcode w → ac ≡ ac_field w → Addressed f p regs.ac 1 13 w e last
-    → Addressee op regs ac e last f p a → glide f p regs.ac 0 (instruction regs) ≡ Some a
+pub unit_glides : (f : ForkName) (p : NumberedPages) (regs : Regs) (w e last : ℕ) (a : After nat_cmp) → Takes f p regs.ac regs.pc Execute w → Addressed f p regs.ac 1 13 w e last
+    → Addressee (opcode w) regs (ac_field w) e last f p a → glide f p regs.ac 0 (instruction regs) ≡ Some a
 unfolding glide instruction execute
-unit_glides f p regs w op ac e last a t is_op is_ac at h = rw (t.ready, ← t.is) rest
+unit_glides f p regs w e last a t at here = rw (t.ready, ← t.is) rest
   where
-    here : Addressee (opcode w) regs (ac_field w) e last f p a
-    here = subst (λ (o : ℕ). Addressee o regs (ac_field w) e last f p a) is_op (subst (λ (x : ℕ). Addressee op regs x e last f p a) is_ac h)
-
     rest : glide f p regs.ac 1 (execute 17 false regs w) ≡ Some a
     rest = ap (glide f p regs.ac 1) (executes_addressed (row_of (opcode w)).family (row_of (opcode w)) regs w _ here.addressed)
         ∙ (at.runs (behind_address (row_of (opcode w)).family (row_of (opcode w)) (opcode w) regs (ac_field w)) ∙ here.runs at.count (omega arith))

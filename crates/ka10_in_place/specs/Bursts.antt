@@ -33,7 +33,7 @@ AreCounted end.Most n most = n ≡ most
 AreCounted end n most = n < most
 
 -- A burst in a space, of so many units at most: the pages and the registers are what its units leave, for each fork whose
--- space this is and over each drum that fits. Only words of pages change.
+-- space this is and over each drum that fits. Only words of pages change; where not even the first is done in place, nothing does, and no page was used.
 pub record InRow {P : Type 0} (means : PagesMeaning P) (space : SpaceHandle) (most : ℕ) (old new : P) (regs after : Regs) (result : Burst) : Type 0 where
   pub count : AreCounted result.end result.units most
   pub told : (d : DrumWords) (f : ForkName) → means.fits old d → means.space old f ≡ Some space → Came result.end result.units f (means.plain old d) regs (means.plain new d) after
@@ -42,6 +42,7 @@ pub record InRow {P : Type 0} (means : PagesMeaning P) (space : SpaceHandle) (mo
   pub loses : MayLose means old new
   pub pc : after.pc < 2 ^ 18
   pub accumulators : length after.ac ≡ length regs.ac
+  pub undone : result.end ≡ end.Slow → result.units ≡ 0 → (after ≡ regs) × (new ≡ old)
 
 -- so far a burst has done so many units, and none has posted; the page that it keeps can be fetched from
 pub record SoFar {P : Type 0} (means : PagesMeaning P) (space : SpaceHandle) (old new : P) (regs after : Regs) (page : FetchPage) (units : ℕ) : Type 0 where
@@ -53,3 +54,4 @@ pub record SoFar {P : Type 0} (means : PagesMeaning P) (space : SpaceHandle) (ol
   pub loses : MayLose means old new
   pub pc : after.pc < 2 ^ 18
   pub accumulators : length after.ac ≡ length regs.ac
+  pub none : units ≡ 0 → (after ≡ regs) × (new ≡ old)

@@ -1,5 +1,6 @@
 -- The page from which words are fetched.
 use Rattle.std.specs.Prelude.{◌≡◌, ℕ, ◌+◌, ◌/◌, ◌<◌, ◌≤◌, Bool, true, false, Some}
+use Rattle.std.specs.Ordering.{nat_cmp}
 use Rattle.outside.specs.declared.TheConstants.{PAGE_WORDS}
 use Rattle.machine_names.specs.declared.names.ForkName.{ForkName}
 use Rattle.machine_names.specs.declared.names.Kind.TheVariants.{Execute}
@@ -11,9 +12,10 @@ use Rattle.page_contracts.specs.DrumWords.{DrumWords}
 use Rattle.page_contracts.specs.Pages.{PagesMeaning, IsTouched}
 use Rattle.plain_pages.specs.PlainPages.{NumberedPages}
 use Rattle.ka10_in_place.specs.declared.fetch_page.FetchPage.{FetchPage}
-use Rattle.ka10_spots.specs.Glide.{is_ready}
-use Rattle.ka10_spots.specs.Once.{once}
-use Rattle.ka10_in_place.specs.InPlace.{Does}
+use Rattle.plain_units.specs.Addressing.{ac_field, opcode}
+use Rattle.ka10_spots.specs.Glide.{Addressed, is_ready}
+use Rattle.ka10_spots.specs.Once.{After, once}
+use Rattle.ka10_in_place.specs.InPlace.{Addressee, Does}
 
 -- an address is one of its
 pub record Has (page : FetchPage) (at : ℕ) : Type 0 where
@@ -49,6 +51,13 @@ pub record KeepsPage {P : Type 0} (means : PagesMeaning P) (space : SpaceHandle)
   pub there : IsThere means space p new
   pub told : (d : DrumWords) (f : ForkName) → means.fits p d → means.space p f ≡ Some space
       → CanExecute f (means.plain p d) old → CanExecute f (means.plain p d) new
+
+-- the unit of an instruction word behind its fetch: its address, and the rest
+pub record Executes (regs : Regs) (word : ℕ) (f : ForkName) (p : NumberedPages) (a : After nat_cmp) : Type 0 where
+  pub e : ℕ
+  pub last : ℕ
+  pub address : Addressed f p regs.ac 1 13 word e last
+  pub rest : Addressee (opcode word) regs (ac_field word) e last f p a
 
 -- the unit of the instruction at the program counter, where the words of one page could be executed: those of the page that it keeps can be
 abbrev pub FetchedUnit : Regs → FetchPage → FetchPage → Does

@@ -12,7 +12,7 @@ use Rattle.machine_names.specs.declared.names.ForkName.{ForkName}
 use Rattle.plain_units.specs.Deeds.{Deed, deed_of, in_ac, taken_by}
 use Rattle.plain_units.specs.Instructions.{does, does_pointer, finishes, is_executive}
 use Rattle.page_contracts.specs.DrumWords.{DrumWords}
-use Rattle.page_contracts.specs.Pages.{PagesMeaning, MayLose, OnlyUses, StaysPut}
+use Rattle.page_contracts.specs.Pages.{PagesMeaning, MayLose, StaysPut}
 use Rattle.plain_pages.specs.PlainPages.{NumberedPages}
 use Rattle.plain_units.specs.Steps.{Steps}
 use Rattle.ka10_in_place.specs.declared.ending.Quick.{Quick}
@@ -30,6 +30,11 @@ IfDone quick.Overflow holds = holds (Some OVERFLOW)
 IfDone quick.Pushdown holds = holds (Some PUSHDOWN_OVERFLOW)
 IfDone quick.Slow holds = Unit {0}
 
+-- a unit was done
+abbrev pub IsDone : Quick → Type 0
+IsDone quick.Slow = ⊥
+IsDone q = Unit {0}
+
 -- a unit that was done, with its post
 abbrev pub ended : Post → Quick
 ended post.Nothing = quick.Done
@@ -40,10 +45,10 @@ ended post.Pushdown = quick.Pushdown
 abbrev pub Does : Type 1
 Does = ForkName → NumberedPages → After nat_cmp → Type 0
 
--- Done in place, in a space: where it isn't done here, pages were used at most; where it is, the pages and the registers are
+-- Done in place, in a space: where it isn't done here, nothing has changed, and no page was used; where it is, the pages and the registers are
 -- what it leaves, for each fork whose space this is and over each drum that fits. Only words of pages change.
 pub record InPlace {P : Type 0} (means : PagesMeaning P) (space : SpaceHandle) (does : Does) (old new : P) (regs after : Regs) (result : Quick) : Type 0 where
-  pub slow : result ≡ quick.Slow → (after ≡ regs) × OnlyUses means old new
+  pub slow : result ≡ quick.Slow → (after ≡ regs) × (new ≡ old)
   pub told : (d : DrumWords) (f : ForkName) → means.fits old d → means.space old f ≡ Some space → IfDone result (λ post. does f (means.plain old d) (record { pages = means.plain new d; regs = after; post = post }))
   pub fits : (d : DrumWords) → means.fits old d → means.fits new d
   pub stays : StaysPut means old new

@@ -19,31 +19,29 @@ pub fn burst<P: Pages>(regs: &mut Regs, pages: &mut P, space: SpaceHandle, most:
     ensures { InRow P.means space most pages.old pages.new regs.old regs.new result }
 {
     let mut kept = FetchPage::NONE;
-    for units in 0..most {
+    // The units are counted down, and there is one way out: so a unit takes fewer machine instructions.
+    let mut left = most;
+    let mut end = BurstEnd::Most;
+    while left != 0 {
         match quick(regs, pages, space, &mut kept) {
             Quick::Done => {}
             Quick::Overflow => {
-                return Burst {
-                    units,
-                    end: BurstEnd::Overflow,
-                };
+                end = BurstEnd::Overflow;
+                break;
             }
             Quick::Pushdown => {
-                return Burst {
-                    units,
-                    end: BurstEnd::Pushdown,
-                };
+                end = BurstEnd::Pushdown;
+                break;
             }
             Quick::Slow => {
-                return Burst {
-                    units,
-                    end: BurstEnd::Slow,
-                };
+                end = BurstEnd::Slow;
+                break;
             }
         }
+        left -= 1;
     }
     Burst {
-        units: most,
-        end: BurstEnd::Most,
+        units: most - left,
+        end,
     }
 }

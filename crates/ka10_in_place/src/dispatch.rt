@@ -1,7 +1,7 @@
 // Instructions in place, by their opcodes.
-ghost use Rattle.std.specs.Prelude.{◌<◌, ◌^◌};
+ghost use Rattle.std.specs.Prelude.{◌<◌};
 ghost use Rattle.machine_names.specs.Bounds.{IsAddress};
-ghost use Rattle.page_contracts.specs.Pages.{HasSpace};
+ghost use Rattle.ka10_spots.specs.Spots.{IsFetched};
 ghost use Rattle.ka10_in_place.specs.InPlace.{Addressee, InPlace};
 
 use crate::blocks::move_word;
@@ -14,6 +14,7 @@ use ka10_deeds::{
     Move, Operation, Popj, PushPop, Pushj, Shift, SubOne, Test, act_at, is_executive, pushed,
     word_in,
 };
+use ka10_spots::{Lead, Spot, Way};
 use ka10_table::{Family, OpMode, TableRow, row};
 use page_contracts::{Pages, SpaceHandle};
 use plain_units::Regs;
@@ -41,20 +42,20 @@ macro_rules! one {
 }
 
 /// The rest of the unit of an opcode's instruction, behind its effective address. The instructions
-/// that programs do most are here, so that these are compiled into the loop of a burst.
+/// that programs do most are here, so that these are compiled into the loop of a burst. It is too large for the hint
+/// to count: it is compiled into what alone calls it. So the units that are near have a copy of their own: their words
+/// are in the page that is kept, and their addresses are those of their words alone.
 #[inline(always)]
 #[rattlefmt::skip]
-pub fn carry<P: Pages>(
-    op: u16, ac: u8, e: u32, last: Word, regs: &mut Regs, pages: &mut P, space: SpaceHandle
+pub fn carry<P: Pages, const NEAR: bool>(
+    op: u16, it: Instruction, regs: &mut Regs, pages: &mut P, space: SpaceHandle
 ) -> Quick
     requires op { op < 512 }
-    requires ac { ac < 16 }
-    requires e { IsAddress e }
-    requires space { HasSpace P.means pages.old space }
-    requires pc { regs.old.pc < 2 ^ 18 }
-    ensures { InPlace P.means space (Addressee op regs.old ac e last) pages.old pages.new regs.old regs.new result }
+    requires fetched { IsFetched P.means space pages.old regs.old it.lead.fetched }
+    ensures { InPlace P.means space (Addressee op regs.old it.ac it.e it.last) pages.old pages.new regs.old regs.new result }
 {
-    let it = Instruction { ac, e, last };
+    let ac = it.ac;
+    let e = it.e;
     let code = row(op).code;
     match act_at(op) {
         Act::Jrst if is_executive(ac) => Quick::Slow,
@@ -100,31 +101,33 @@ pub fn carry<P: Pages>(
         Act::BooleanImmediate => bare(one!(Boolean op Boolean Immediate code), it, regs, pages, space),
         Act::Half => read(one!(Half op Half Basic code), it, regs, pages, space, e),
         Act::TestImmediate => bare(one!(Test op Test Basic code / 16 * 16 + code % 8), it, regs, pages, space),
-        _ => carry_other(op, ac, e, last, regs, pages, space),
+        _ => carry_other::<P, NEAR>(op, ac, e, it.last, it.lead.fetched, it.lead.way, regs, pages, space),
     }
 }
 
-/// The same of the other instructions.
+/// The same of the other instructions, whose parts come one by one: a record whose address is handed on would be
+/// written to memory for each unit. How the address of a near unit was come by is known when this is compiled, so that
+/// its copy is handed nothing for uses that do nothing.
 #[inline(never)]
 #[rattlefmt::skip]
-fn carry_other<P: Pages>(
-    op: u16, ac: u8, e: u32, last: Word, regs: &mut Regs, pages: &mut P, space: SpaceHandle
+fn carry_other<P: Pages, const NEAR: bool>(
+    op: u16, ac: u8, e: u32, last: Word, fetched: Spot, way: Way, regs: &mut Regs, pages: &mut P, space: SpaceHandle
 ) -> Quick
     requires op { op < 512 }
     requires ac { ac < 16 }
     requires e { IsAddress e }
-    requires space { HasSpace P.means pages.old space }
-    requires pc { regs.old.pc < 2 ^ 18 }
+    requires fetched { IsFetched P.means space pages.old regs.old fetched }
     ensures { InPlace P.means space (Addressee op regs.old ac e last) pages.old pages.new regs.old regs.new result }
 {
-    let it = Instruction { ac, e, last };
+    let way = if NEAR { Way::Direct } else { way };
+    let it = Instruction { ac, e, last, lead: Lead { fetched, way } };
     let code = row(op).code;
     match act_at(op) {
-        Act::Ibp => byte(0o133, 0, it, regs, pages, space),
-        Act::Ildb => byte(0o134, 1, it, regs, pages, space),
-        Act::Ldb => byte(0o135, 2, it, regs, pages, space),
-        Act::Idpb => byte(0o136, 3, it, regs, pages, space),
-        Act::Dpb => byte(0o137, 4, it, regs, pages, space),
+        Act::Ibp => byte::<P, NEAR>(0o133, 0, it, regs, pages, space),
+        Act::Ildb => byte::<P, NEAR>(0o134, 1, it, regs, pages, space),
+        Act::Ldb => byte::<P, NEAR>(0o135, 2, it, regs, pages, space),
+        Act::Idpb => byte::<P, NEAR>(0o136, 3, it, regs, pages, space),
+        Act::Dpb => byte::<P, NEAR>(0o137, 4, it, regs, pages, space),
         Act::Blt => move_word(it, regs, pages, space),
         Act::Moves => replace(one!(Move 0o203 Move Own 0), it, regs, pages, space),
         Act::Addb => replace(one!(Operation 0o273 AddSub Both 0), it, regs, pages, space),

@@ -14,7 +14,7 @@ pub enum Quick {
     Overflow,
     /// It is done, and posts that a pushdown list ran over, or under.
     Pushdown,
-    /// It isn't done here. No word and no register has changed, but pages may have been used.
+    /// It isn't done here. Nothing has changed, and no page was used.
     Slow,
 }
 

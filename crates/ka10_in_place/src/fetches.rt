@@ -1,56 +1,62 @@
 // Fetches in a burst: where the page of the program counter is, is found once for the units behind.
-ghost use Rattle.std.specs.Prelude.{◌≡◌, ◌<◌, ◌^◌, Some, IsSome, IfSome, slice_index};
+ghost use Rattle.std.specs.Prelude.{◌≡◌, ◌<◌, ◌≤◌, ◌^◌, Some, IsSome, IfSome, slice_index};
 ghost use Rattle.machine_names.specs.declared.names.ForkName.{ForkName as AForkName};
 ghost use Rattle.machine_names.specs.declared.names.Kind.TheVariants.{Execute};
 ghost use Rattle.machine_names.specs.declared.names.TheConstants.{ACCUMULATORS, SPACE_PAGES};
 ghost use Rattle.machine_names.specs.Bounds.{IsAddress};
 ghost use Rattle.page_contracts.specs.DrumWords.{DrumWords};
-ghost use Rattle.page_contracts.specs.Pages.{HasSpace, OnlyUses};
+ghost use Rattle.page_contracts.specs.Pages.{HasSpace};
 ghost use Rattle.ka10_spots.specs.Glide.{Takes};
 ghost use Rattle.ka10_in_place.specs.Fetches.{CanExecute, IsPage, IsThere, KeepsPage};
-ghost use Rattle.ka10_spots.specs.Spots.{IsReached, UsesPage};
+ghost use Rattle.ka10_spots.specs.Spots.{IsReached, IsSpot};
 
 use crate::fetch_page::FetchPage;
-use ka10_spots::page_of;
+use ka10_spots::{Spot, page_of};
 use machine_names::{ACCUMULATORS, Kind, PAGE_ADDRESSES};
 use page_contracts::{Found, Pages, SpaceHandle};
 use plain_units::Regs;
 use word36::Word;
 
-/// The word at the program counter, where its fetch goes through as the pages are. Its page is kept
-/// for the fetches behind; each fetch is a use of it.
+/// An instruction word, and where it stands.
+#[derive(Clone, Copy)]
+pub struct Fetched {
+    pub word: Word,
+    pub spot: Spot,
+}
+
+/// The word at the program counter, where that is no accumulator and its fetch goes through as the pages are. Its page
+/// is kept for the fetches behind. This is a look, and no use of the page.
 #[inline(always)]
 pub fn fetch<P: Pages>(
     regs: &Regs,
-    pages: &mut P,
+    pages: &P,
     space: SpaceHandle,
     kept: &mut FetchPage,
-) -> Option<Word>
-    requires space { HasSpace P.means pages.old space }
+) -> Option<Fetched>
+    requires space { HasSpace P.means pages.now space }
     requires pc { regs.now.pc < 2 ^ 18 }
-    requires there { IsThere P.means space pages.old kept.old }
-    ensures there { IsThere P.means space pages.new kept.new }
-    ensures reached { (f : AForkName) → P.means.space pages.old f ≡ Some space
-        → IsReached P.means pages.old f regs.now.pc Kind.Execute → IsSome result }
-    ensures told { (d : DrumWords) (f : AForkName) → P.means.fits pages.old d → P.means.space pages.old f ≡ Some space
-        → CanExecute f (P.means.plain pages.old d) kept.old → CanExecute f (P.means.plain pages.old d) kept.new
-        × IfSome result (λ word. Takes f (P.means.plain pages.old d) regs.now.ac regs.now.pc Kind.Execute word) }
-    ensures only { OnlyUses P.means pages.old pages.new }
-    ensures uses { IfSome result (λ word. UsesPage P.means space regs.now.pc pages.old pages.new) }
+    requires there { IsThere P.means space pages.now kept.old }
+    ensures there { IsThere P.means space pages.now kept.new }
+    ensures reached { (f : AForkName) → P.means.space pages.now f ≡ Some space → ACCUMULATORS ≤ regs.now.pc
+        → IsReached P.means pages.now f regs.now.pc Kind.Execute → IsSome result }
+    ensures told { (d : DrumWords) (f : AForkName) → P.means.fits pages.now d → P.means.space pages.now f ≡ Some space
+        → CanExecute f (P.means.plain pages.now d) kept.old → CanExecute f (P.means.plain pages.now d) kept.new
+        × IfSome result (λ it. Takes f (P.means.plain pages.now d) regs.now.ac regs.now.pc Kind.Execute it.word) }
+    ensures spot { IfSome result (λ it. IsSpot P.means space regs.now.pc pages.now it.spot) }
 {
     let at = regs.pc;
     if keep_page(pages, space, at, kept) {
-        return Some(pages.load(space, kept.found, at));
-    }
-    if at < ACCUMULATORS {
-        return Some(word_of_accumulator(regs, at));
+        return Some(Fetched {
+            word: pages.look(space, kept.found, at),
+            spot: Spot::Page(kept.found),
+        });
     }
     None
 }
 
-// The word of an accumulator.
-#[inline(never)]
-fn word_of_accumulator(regs: &Regs, at: u32) -> Word
+/// The word of an accumulator.
+#[inline(always)]
+pub fn word_of_accumulator(regs: &Regs, at: u32) -> Word
     requires { at < ACCUMULATORS }
     ensures { result ≡ slice_index regs.now.ac at }
 {

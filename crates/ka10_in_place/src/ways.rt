@@ -2,15 +2,19 @@
 ghost use Rattle.std.specs.Prelude.{◌≡◌, ◌^◌, ◌<◌, Some, None, true};
 ghost use Rattle.plain_units.specs.Deeds.{in_ac};
 ghost use Rattle.machine_names.specs.Bounds.{IsAddress};
+ghost use Rattle.machine_names.specs.declared.names.ForkName.{ForkName as AForkName};
+ghost use Rattle.page_contracts.specs.DrumWords.{DrumWords};
 ghost use Rattle.page_contracts.specs.Pages.{HasSpace};
-ghost use Rattle.ka10_in_place.specs.InPlace.{Addressee, Finish, InPlace, IsOwnRow, deed_in, is_deed, taken_in};
+ghost use Rattle.ka10_spots.specs.Glide.{is_ready};
+ghost use Rattle.ka10_spots.specs.Spots.{IsFetched, IsSpot};
+ghost use Rattle.ka10_in_place.specs.InPlace.{Addressee, Finish, InPlace, IsDone, IsOwnRow, deed_in, is_deed, taken_in};
 ghost use Rattle.ka10_in_place.specs.Stores.{GoesTo, IsNowhere};
 ghost use Rattle.ka10_in_place.specs.Targets.{unstored, operand, place_of, target_of};
 
 use crate::ending::{Quick, ended};
 use crate::instruction::Instruction;
 use ka10_deeds::HasDeed;
-use ka10_spots::{load, spot_to_change, spot_to_write, store, take};
+use ka10_spots::{Spot, load_led, spot_to, spot_to_change, store, take_led, use_lead};
 use machine_names::Kind;
 use page_contracts::{Pages, SpaceHandle};
 use plain_units::Regs;
@@ -29,13 +33,14 @@ fn finish<D: HasDeed, P: Pages>(
     requires valid { D.is_valid deed }
     requires nowhere { IsNowhere (deed_in (D.instruction deed) regs.old it.ac it.e it.last m).store }
     requires pc { regs.old.pc < 2 ^ 18 }
-    ensures { InPlace P.means space (Finish regs.old it.ac (deed_in (D.instruction deed) regs.old it.ac it.e it.last m)) pages.now pages.now regs.old regs.new result }
+    ensures unit { InPlace P.means space (Finish regs.old it.ac (deed_in (D.instruction deed) regs.old it.ac it.e it.last m)) pages.now pages.now regs.old regs.new result }
+    ensures done { IsDone result }
 {
     let told = deed.do_deed(regs, it.ac, it.e, it.last, m);
     ended(told.post)
 }
 
-/// A deed that stores at an address, if it stores.
+/// A deed that stores at an address whose spot was found, if it stores.
 #[inline(always)]
 fn finish_at<D: HasDeed, P: Pages>(
     deed: D,
@@ -44,23 +49,22 @@ fn finish_at<D: HasDeed, P: Pages>(
     pages: &mut P,
     space: SpaceHandle,
     m: Word,
+    spot: Spot,
     to: u32,
 ) -> Quick
     requires valid { D.is_valid deed }
     requires space { HasSpace P.means pages.old space }
     requires to { GoesTo to (deed_in (D.instruction deed) regs.old it.ac it.e it.last m).store }
     requires address { IsAddress to }
+    requires spot { IsSpot P.means space to pages.old spot }
+    requires ready { (d : DrumWords) (f : AForkName) → P.means.fits pages.old d → P.means.space pages.old f ≡ Some space → is_ready f (P.means.plain pages.old d) to Kind.Write ≡ true }
     requires pc { regs.old.pc < 2 ^ 18 }
-    ensures { InPlace P.means space (Finish regs.old it.ac (deed_in (D.instruction deed) regs.old it.ac it.e it.last m)) pages.old pages.new regs.old regs.new result }
+    ensures unit { InPlace P.means space (Finish regs.old it.ac (deed_in (D.instruction deed) regs.old it.ac it.e it.last m)) pages.old pages.new regs.old regs.new result }
+    ensures done { IsDone result }
 {
-    match spot_to_write(pages, space, to) {
-        None => Quick::Slow,
-        Some(spot) => {
-            let told = deed.do_deed(regs, it.ac, it.e, it.last, m);
-            store(regs, pages, space, spot, to, told.stored);
-            ended(told.post)
-        }
-    }
+    let told = deed.do_deed(regs, it.ac, it.e, it.last, m);
+    store(regs, pages, space, spot, to, told.stored);
+    ended(told.post)
 }
 
 /// The operand is 0,,E, and no word is stored.
@@ -75,12 +79,12 @@ pub fn bare<D: HasDeed, P: Pages>(
     requires valid { D.is_valid deed }
     requires row { IsOwnRow (D.instruction deed) }
     requires deed { is_deed (D.instruction deed).row.family it.ac ≡ true }
-    requires space { HasSpace P.means pages.old space }
+    requires fetched { IsFetched P.means space pages.old regs.old it.lead.fetched }
     requires taken { taken_in (D.instruction deed) regs.old it.ac it.e ≡ None }
     requires nowhere { target_of (D.instruction deed).row ≡ unstored }
-    requires pc { regs.old.pc < 2 ^ 18 }
     ensures { InPlace P.means space (Addressee (D.instruction deed).op regs.old it.ac it.e it.last) pages.old pages.new regs.old regs.new result }
 {
+    use_lead(it.lead, regs, pages, space);
     finish(deed, it, regs, pages, space, Word::join(0, it.e))
 }
 
@@ -97,14 +101,13 @@ pub fn read<D: HasDeed, P: Pages>(
     requires valid { D.is_valid deed }
     requires row { IsOwnRow (D.instruction deed) }
     requires deed { is_deed (D.instruction deed).row.family it.ac ≡ true }
-    requires space { HasSpace P.means pages.old space }
+    requires fetched { IsFetched P.means space pages.old regs.old it.lead.fetched }
     requires taken { taken_in (D.instruction deed) regs.old it.ac it.e ≡ Some from }
     requires nowhere { target_of (D.instruction deed).row ≡ unstored }
     requires from { IsAddress from }
-    requires pc { regs.old.pc < 2 ^ 18 }
     ensures { InPlace P.means space (Addressee (D.instruction deed).op regs.old it.ac it.e it.last) pages.old pages.new regs.old regs.new result }
 {
-    match take(regs, pages, space, from, Kind::Read) {
+    match take_led(it.lead, regs, pages, space, from) {
         None => Quick::Slow,
         Some(m) => finish(deed, it, regs, pages, space, m),
     }
@@ -123,14 +126,19 @@ pub fn write<D: HasDeed, P: Pages>(
     requires valid { D.is_valid deed }
     requires row { IsOwnRow (D.instruction deed) }
     requires deed { is_deed (D.instruction deed).row.family it.ac ≡ true }
-    requires space { HasSpace P.means pages.old space }
+    requires fetched { IsFetched P.means space pages.old regs.old it.lead.fetched }
     requires taken { taken_in (D.instruction deed) regs.old it.ac it.e ≡ None }
     requires to { place_of (target_of (D.instruction deed).row) (in_ac regs.old it.ac) it.e ≡ Some to }
     requires address { IsAddress to }
-    requires pc { regs.old.pc < 2 ^ 18 }
     ensures { InPlace P.means space (Addressee (D.instruction deed).op regs.old it.ac it.e it.last) pages.old pages.new regs.old regs.new result }
 {
-    finish_at(deed, it, regs, pages, space, Word::join(0, it.e), to)
+    match spot_to(pages, space, to, Kind::Write) {
+        None => Quick::Slow,
+        Some(spot) => {
+            use_lead(it.lead, regs, pages, space);
+            finish_at(deed, it, regs, pages, space, Word::join(0, it.e), spot, to)
+        }
+    }
 }
 
 /// The word at an address is taken, and one is stored at another.
@@ -147,17 +155,19 @@ pub fn transfer<D: HasDeed, P: Pages>(
     requires valid { D.is_valid deed }
     requires row { IsOwnRow (D.instruction deed) }
     requires deed { is_deed (D.instruction deed).row.family it.ac ≡ true }
-    requires space { HasSpace P.means pages.old space }
+    requires fetched { IsFetched P.means space pages.old regs.old it.lead.fetched }
     requires taken { taken_in (D.instruction deed) regs.old it.ac it.e ≡ Some from }
     requires to { place_of (target_of (D.instruction deed).row) (in_ac regs.old it.ac) it.e ≡ Some to }
     requires from { IsAddress from }
     requires address { IsAddress to }
-    requires pc { regs.old.pc < 2 ^ 18 }
     ensures { InPlace P.means space (Addressee (D.instruction deed).op regs.old it.ac it.e it.last) pages.old pages.new regs.old regs.new result }
 {
-    match take(regs, pages, space, from, Kind::Read) {
+    match spot_to(pages, space, to, Kind::Write) {
         None => Quick::Slow,
-        Some(m) => finish_at(deed, it, regs, pages, space, m, to),
+        Some(spot) => match take_led(it.lead, regs, pages, space, from) {
+            None => Quick::Slow,
+            Some(m) => finish_at(deed, it, regs, pages, space, m, spot, to),
+        },
     }
 }
 
@@ -173,19 +183,17 @@ pub fn replace<D: HasDeed, P: Pages>(
     requires valid { D.is_valid deed }
     requires row { IsOwnRow (D.instruction deed) }
     requires deed { is_deed (D.instruction deed).row.family it.ac ≡ true }
-    requires space { HasSpace P.means pages.old space }
+    requires fetched { IsFetched P.means space pages.old regs.old it.lead.fetched }
     requires taken { taken_in (D.instruction deed) regs.old it.ac it.e ≡ Some it.e }
     requires to { target_of (D.instruction deed).row ≡ operand }
-    requires pc { regs.old.pc < 2 ^ 18 }
     ensures { InPlace P.means space (Addressee (D.instruction deed).op regs.old it.ac it.e it.last) pages.old pages.new regs.old regs.new result }
 {
-    match spot_to_change(pages, space, it.e) {
+    let e = it.e;
+    match spot_to_change(pages, space, e) {
         None => Quick::Slow,
         Some(spot) => {
-            let m = load(regs, pages, space, spot, it.e);
-            let told = deed.do_deed(regs, it.ac, it.e, it.last, m);
-            store(regs, pages, space, spot, it.e, told.stored);
-            ended(told.post)
+            let m = load_led(it.lead, regs, pages, space, spot, e);
+            finish_at(deed, it, regs, pages, space, m, spot, e)
         }
     }
 }

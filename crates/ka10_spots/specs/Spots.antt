@@ -1,5 +1,5 @@
 -- Where a word of a space is.
-use Rattle.std.specs.Prelude.{◌≡◌, ℕ, zero, suc, ◌+◌, ◌/◌, ◌%◌, ◌<◌, ◌≤◌, true, List, Option, None, Some, IfSome, length, slice_set}
+use Rattle.std.specs.Prelude.{◌≡◌, ℕ, zero, suc, ◌+◌, ◌/◌, ◌%◌, ◌^◌, ◌<◌, ◌≤◌, true, List, Option, None, Some, IfSome, length, slice_set}
 use Rattle.outside.specs.declared.TheConstants.{PAGE_WORDS}
 use Rattle.machine_names.specs.declared.names.TheConstants.{ACCUMULATORS}
 use Rattle.machine_names.specs.declared.names.ForkName.{ForkName}
@@ -11,7 +11,7 @@ use Rattle.page_contracts.specs.Stores.{IsUsed}
 use Rattle.plain_units.specs.declared.registers.Regs.{Regs}
 use Rattle.plain_units.specs.Addressing.{indexed, is_indirect}
 use Rattle.page_contracts.specs.DrumWords.{DrumWords}
-use Rattle.page_contracts.specs.Pages.{PagesMeaning, MayLose, StaysPut, IsTouched}
+use Rattle.page_contracts.specs.Pages.{PagesMeaning, HasSpace, MayLose, OnlyUses, StaysPut, IsTouched}
 use Rattle.plain_pages.specs.References.{in_map, slot_at, stored}
 use Rattle.plain_pages.specs.PlainPages.{NumberedPages}
 use Rattle.ka10_deeds.specs.declared.word_fields.Address.{Address}
@@ -60,3 +60,22 @@ module _ {P : Type 0} (means : PagesMeaning P) (space : SpaceHandle) (at : ℕ) 
   abbrev pub StoredIf : Option ℕ → P → P → Regs → Regs → Type 0
   StoredIf None old new regs after = (new ≡ old) × (after ≡ regs)
   StoredIf (Some word) old new regs after = Stored word old new regs after
+
+module _ {P : Type 0} (means : PagesMeaning P) (space : SpaceHandle) (pc : ℕ) where
+  -- the page of a fetch was used, and pages at most behind it
+  pub record UsesFetch (old new : P) : Type 0 where
+    pub behind : P
+    pub fetch : UsesPage means space pc old behind
+    pub rest : OnlyUses means behind new
+
+  -- the same, and last of all that of an operand
+  pub record UsesOperand (at : ℕ) (old new : P) : Type 0 where
+    pub before : P
+    pub lead : UsesFetch old before
+    pub operand : UsesPage means space at before new
+
+-- the word at the program counter of registers is there
+pub record IsFetched {P : Type 0} (means : PagesMeaning P) (space : SpaceHandle) (p : P) (regs : Regs) (fetched : Spot) : Type 0 where
+  pub handle : HasSpace means p space
+  pub pc : regs.pc < 2 ^ 18
+  pub spot : IsSpot means space regs.pc p fetched

@@ -4,7 +4,9 @@
 #![tactic(auto)]
 
 mod addressing;
+mod leads;
 mod spots;
 
-pub use addressing::effective_address;
-pub use spots::{Spot, load, page_of, spot_to_change, spot_to_write, store, take};
+pub use addressing::{effective_address, own_address, use_indirect};
+pub use leads::{INDIRECT_WORDS, Lead, Way, load_led, take_led, use_lead};
+pub use spots::{Spot, load, look, look_at, page_of, spot_to, spot_to_change, store, use_spot};

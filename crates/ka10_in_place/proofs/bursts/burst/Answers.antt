@@ -1,26 +1,37 @@
-use Rattle.std.proofs.Common.{refl}
-use Rattle.ka10_in_place.proofs.BurstLemmas.{so_far_none, so_far_more, ends_overflow, ends_pushdown, ends_slow}
-use Rattle.ka10_spots.proofs.Used.{space_stays}
+use Rattle.std.proofs.Common.{◌≡◌, ℕ, ◌+◌, ◌-◌, ◌<◌, refl, arith}
+use Rattle.ka10_in_place.proofs.BurstLemmas.{so_far_none, so_far_more, ends_overflow, ends_pushdown, ends_slow, ends_most}
 use Rattle.ka10_in_place.proofs.bursts.burst.Goals as goal
+use Rattle.ka10_in_place.proofs.bursts.burst.Goals.{else-loop-left-test, then-loop-left-test+in-Overflow, then-loop-left-test+in-Pushdown, then-loop-left-test+in-Slow}
 
-pub loop-units-init : goal.loop-units-init
-loop-units-init g c = so_far_none g.P.Pages.means c.args.space c.args.pages.now c.args.regs.now _ refl c.requires.pc
+pub loop-left-init : goal.loop-left-init
+loop-left-init g c =
+    let none : c.args.most - c.args.most ≡ 0 = omega arith in
+    (omega arith, refl, rw none (so_far_none g.P.Pages.means c.args.space c.args.pages.now c.args.regs.now _ refl c.requires.pc))
 
-pub quick-requires-clause-space : goal.quick-requires-clause-space
-quick-requires-clause-space g c = space_stays g.P.Pages.means c.args.space c.args.pages.now c.loop-units.pages c.requires.space c.loop-units.invariant.stays
+pub loop-left-preserved : goal.loop-left-preserved
+loop-left-preserved g c =
+    let before = c.loop-left.invariant in
+    let more : c.args.most - (c.loop-left.left - 1) ≡ c.args.most - c.loop-left.left + 1 = omega (arith, before.0, c.loop-left-test.true) in (
+      omega (arith, before.0),
+      before.1,
+      rw more (so_far_more g.P.Pages.means c.args.space c.args.pages.now c.loop-left.pages c.quick.new.pages c.args.regs.now c.loop-left.regs c.quick.new.regs c.loop-left.kept c.quick.new.kept (c.args.most - c.loop-left.left) before.2 c.in-Done.ensures.unit c.in-Done.ensures.there),
+    )
 
-pub loop-units-preserved : goal.loop-units-preserved
-loop-units-preserved g c =
-    so_far_more g.P.Pages.means c.args.space c.args.pages.now c.loop-units.pages c.quick.new.pages c.args.regs.now c.loop-units.regs c.quick.new.regs c.loop-units.kept c.quick.new.kept c.loop-units.units c.loop-units.invariant c.in-Done.ensures.unit c.in-Done.ensures.there
-
-pub returns-in-Overflow : goal.returns-in-Overflow
-returns-in-Overflow g c =
-    ends_overflow g.P.Pages.means c.args.space c.args.pages.now c.loop-units.pages c.quick.new.pages c.args.regs.now c.loop-units.regs c.quick.new.regs c.loop-units.kept c.quick.new.kept c.loop-units.units c.loop-units.invariant c.args.most c.loop-units-test.true c.in-Overflow.ensures.unit
-
-pub returns-in-Pushdown : goal.returns-in-Pushdown
-returns-in-Pushdown g c =
-    ends_pushdown g.P.Pages.means c.args.space c.args.pages.now c.loop-units.pages c.quick.new.pages c.args.regs.now c.loop-units.regs c.quick.new.regs c.loop-units.kept c.quick.new.kept c.loop-units.units c.loop-units.invariant c.args.most c.loop-units-test.true c.in-Pushdown.ensures.unit
-
-pub returns-in-Slow : goal.returns-in-Slow
-returns-in-Slow g c =
-    ends_slow g.P.Pages.means c.args.space c.args.pages.now c.loop-units.pages c.quick.new.pages c.args.regs.now c.loop-units.regs c.quick.new.regs c.loop-units.kept c.quick.new.kept c.loop-units.units c.loop-units.invariant c.args.most c.loop-units-test.true c.in-Slow.ensures.unit
+pub returns : goal.returns
+returns g c =
+    let before = c.loop-left.invariant in
+    let n : ℕ = c.args.most - c.loop-left.left in
+    elim c.loop-left-test.branch [
+      | else-loop-left-test w ↦
+          let all : c.args.most - c.loop-left.left ≡ c.args.most = omega (arith, w.loop-left-test.false) in
+          rw (w.regs-is, w.pages-is, w.end-is, before.1, all) (ends_most g.P.Pages.means c.args.space c.args.pages.now c.loop-left.pages c.args.regs.now c.loop-left.regs c.loop-left.kept c.args.most n all before.2)
+      | then-loop-left-test+in-Overflow w ↦
+          let less : n < c.args.most = omega (arith, before.0, w.loop-left-test.true) in
+          rw (w.regs-is, w.pages-is, w.end-is) (ends_overflow g.P.Pages.means c.args.space c.args.pages.now c.loop-left.pages w.quick.new.pages c.args.regs.now c.loop-left.regs w.quick.new.regs c.loop-left.kept w.quick.new.kept n before.2 c.args.most less w.in-Overflow.ensures.unit)
+      | then-loop-left-test+in-Pushdown w ↦
+          let less : n < c.args.most = omega (arith, before.0, w.loop-left-test.true) in
+          rw (w.regs-is, w.pages-is, w.end-is) (ends_pushdown g.P.Pages.means c.args.space c.args.pages.now c.loop-left.pages w.quick.new.pages c.args.regs.now c.loop-left.regs w.quick.new.regs c.loop-left.kept w.quick.new.kept n before.2 c.args.most less w.in-Pushdown.ensures.unit)
+      | then-loop-left-test+in-Slow w ↦
+          let less : n < c.args.most = omega (arith, before.0, w.loop-left-test.true) in
+          rw (w.regs-is, w.pages-is, w.end-is) (ends_slow g.P.Pages.means c.args.space c.args.pages.now c.loop-left.pages w.quick.new.pages c.args.regs.now c.loop-left.regs w.quick.new.regs c.loop-left.kept w.quick.new.kept n before.2 c.args.most less w.in-Slow.ensures.unit)
+    ]

@@ -1,12 +1,12 @@
 use Rattle.ka10_in_place.specs.InPlace.{deed_in}
+use Rattle.ka10_in_place.proofs.Finishing.{is_done}
 use Rattle.ka10_in_place.proofs.Placing.{finish_at_in_place}
-use Rattle.ka10_in_place.proofs.Placing.{slow_in_place}
 use Rattle.ka10_in_place.proofs.ways.finish_at.Goals as goal
 
-pub returns-in-Some : goal.returns-in-Some
-returns-in-Some g c =
+pub returns-clause-unit : goal.returns-clause-unit
+returns-clause-unit g c =
     finish_at_in_place g.P.Pages.means c.args.space c.args.regs.now c.do_deed-told.new.regs c.args.it.ac (deed_in (g.D.HasDeed.instruction c.args.deed) c.args.regs.now c.args.it.ac c.args.it.e c.args.it.last c.args.m)
-    c.do_deed-told.result c.do_deed-told.ensures c.ended.result c.ended.ensures c.args.pages.now c.store.new.pages c.store.new.regs c.args.to c.requires.to c.in-Some.ensures.told c.store.ensures
+    c.do_deed-told.result c.do_deed-told.ensures c.ended.result c.ended.ensures c.args.pages.now c.store.new.pages c.store.new.regs c.args.to c.requires.to c.requires.ready c.store.ensures
 
-pub returns-in-None : goal.returns-in-None
-returns-in-None g c = slow_in_place g.P.Pages.means c.args.space _ c.args.pages.now c.args.regs.now c.requires.pc
+pub returns-clause-done : goal.returns-clause-done
+returns-clause-done g c = is_done c.do_deed-told.result.post c.ended.result c.ended.ensures
