@@ -55,3 +55,13 @@ returns-in-Drop-clause-told g c d f =
     let h : IsMapChange c.args.grant (Drop c.in-Drop.name c.in-Drop.page) = subst (IsMapChange c.args.grant) c.in-Drop.is c.requires.what in
     let t = c.set_file-in-Drop.ensures.told d f in
     (t.0, drop_so (key_of c.args.tables.now) p (g.P.Pages.means.plain c.set_file-in-Drop.new.self d) (pages_granted p c.args.owner c.args.grant) c.args.what c.number-in-Drop.result c.in-Drop.name c.in-Drop.page c.in-Drop.is (drop_made p c.args.owner c.args.grant c.in-Drop.name c.in-Drop.page h) c.number-in-Drop.ensures.number t.1)
+
+-- what an entry makes
+pub returns-in-Unmap-clause-made : goal.returns-in-Unmap-clause-made
+returns-in-Unmap-clause-made g c = c.set.ensures.made c.args.owner
+
+pub returns-in-Follow-clause-made : goal.returns-in-Follow-clause-made
+returns-in-Follow-clause-made g c = c.set-in-Follow.ensures.made c.args.owner
+
+pub returns-in-Narrow-clause-made : goal.returns-in-Narrow-clause-made
+returns-in-Narrow-clause-made g c = c.set-in-Narrow.ensures.made c.args.owner
