@@ -2,6 +2,7 @@
 ghost use Rattle.std.specs.Prelude.{◌≡◌, ◌<◌, ◌^◌, List, true, ℕ};
 ghost use Rattle.machine_names.specs.Bounds.{IsTerminal};
 ghost use Rattle.page_contracts.specs.DrumWords.{DrumWords};
+ghost use Rattle.page_contracts.specs.declared.answers.Need.{Need as ANeed};
 ghost use Rattle.page_gather.specs.Gathering.{left_of};
 ghost use Rattle.plain_units.specs.Deeds.{in_ac};
 ghost use Rattle.plain_model.specs.Calls.{ends};
@@ -141,6 +142,7 @@ pub fn jfn_call<P: Pages>(
     ensures told { let a = asked_of who regs.now user.now tables.old in Turned P.means pages.old pages.new tables.old tables.new a result (jfn_call_of number a) }
     ensures needs { AnswerNeeds P.means.store text_frames pages.new result }
     ensures core { P.means.flat ≡ true → IsDone result }
+    ensures reads { (n : ANeed) → result ≡ Answer.Need n → number ≡ GTJFN }
     ensures stays { Stays pages.old pages.new tables.old tables.new result }
     ensures others { OthersHold who.tty tables.old tables.new }
     ensures grows { Grows P.means who.tty 128 pages.old pages.new }
