@@ -60,7 +60,7 @@ module _ (was : Tables) (who : ForkName) (regs : Regs) (number : ℕ) (j : Job) 
   }
 
   -- who asks what
-  bytes_asked : (p : NumberedPages) → asks_bytes (key_of was.files) (parts_in (rest_of was) p) who regs ≡ asked_on who regs was.files line.input p
+  pub bytes_asked : (p : NumberedPages) → asks_bytes (key_of was.files) (parts_in (rest_of was) p) who regs ≡ asked_on who regs was.files line.input p
   bytes_asked p = λ i. record (asked_on who regs was.files line.input p) { held = has_line.jfns i; input = has_line.input i }
 
   -- how it comes out, of calls that are asked so

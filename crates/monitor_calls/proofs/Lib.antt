@@ -9,6 +9,7 @@ pub mod Keeping
 mod Leaving
 mod Stopping
 mod Calling
+mod WhyNeeded
 pub mod NamedKeys
 pub mod JfnsAsked
 mod JfnTurns

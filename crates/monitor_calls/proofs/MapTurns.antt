@@ -47,7 +47,7 @@ held_are typed jobs opens unheld t = by (job_at jobs t.0) refl
 
 module _ (was : Tables) (who : ForkName) (regs : Regs) (number : ℕ) (unheld : AreUnheld (open_of was.files) was.jobs) where
   -- who asks what
-  maps_asked : (p : NumberedPages) → asks_maps (parts_in (rest_of was) p) who regs ≡ asked who regs was.tree was.files
+  pub maps_asked : (p : NumberedPages) → asks_maps (parts_in (rest_of was) p) who regs ≡ asked who regs was.tree was.files
   maps_asked p = λ i. record { who = who; regs = regs; tree = was.tree; held = held_are was.typed was.jobs (open_of was.files) unheld who.tty i }
 
   -- how it comes out

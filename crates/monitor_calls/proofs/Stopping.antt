@@ -9,13 +9,15 @@ use Rattle.plain_model.specs.declared.fork.Body.{Body}
 use Rattle.plain_model.specs.declared.fork.Fork.{Fork}
 use Rattle.page_contracts.specs.declared.answers.Need.{Need}
 use Rattle.page_contracts.specs.DrumWords.{DrumWords}
-use Rattle.page_contracts.specs.Pages.{PagesMeaning}
+use Rattle.page_contracts.specs.Pages.{MayLose, PagesMeaning}
 use Rattle.page_contracts.specs.Stores.{IsNeeded, StaysPlanned}
 use Rattle.page_contracts.proofs.Planning.{planned_still}
 use Rattle.plain_pages.specs.PlainPages.{NumberedPages}
 use Rattle.plain_model.specs.Trees.{PlainTree, with_body}
 use Rattle.plain_model.proofs.ForkMaps.{put_itself}
 use Rattle.ka10_spots.specs.Once.{After, in_a_row}
+use Rattle.ka10_spots.proofs.Stored.{lost_on}
+use Rattle.ka10_unit.specs.Gathers.{framed}
 use Rattle.fork_tree.specs.Trees.{IsTree, Lives}
 use Rattle.fork_tree.proofs.Slots.{get_put}
 use Rattle.job_forks.specs.Holding.{Holds, MakesPages}
@@ -28,12 +30,16 @@ use Rattle.monitor_calls.specs.Jobs.{AreUnheld}
 use Rattle.monitor_calls.specs.declared.typing.Typing.{Typing}
 use Rattle.step_shown.specs.declared.reach.Reach.{Reach}
 use Rattle.monitor_calls.specs.declared.units.Units.{Units}
-use Rattle.monitor_calls.specs.ForkUnit.{CallWaits, Kept, LeavesForks, RanUnits, RanUpTo, Rest, Tables, UnitWaits, UnitsRan, left_so, put_back, ran_on, rest_of}
+use Rattle.monitor_calls.specs.declared.row.Last.{Last}
+use Rattle.monitor_calls.specs.declared.row.Last.TheVariants.{Calls, Needs}
+use Rattle.monitor_calls.specs.Reasons.{CallNeeds, UnitStops}
+use Rattle.monitor_calls.specs.ForkUnit.{CallWaits, Kept, LeavesForks, RanUnits, RanUpTo, Rest, Tables, UnitReason, UnitWaits, UnitsRan, left_so, parts_in, put_back, ran_on, rest_of}
 use Rattle.step_shown.specs.Shown.{nothing}
 use Rattle.monitor_calls.specs.Makings.{Makes, most_makings}
 use Rattle.monitor_calls.proofs.JfnsAsked.{dir_stays}
 use Rattle.monitor_calls.proofs.Leaving.{came_less, leaves_one, leaves_then}
 use Rattle.monitor_calls.proofs.UnitRan.{row_ran}
+use Rattle.monitor_calls.proofs.WhyNeeded.{call_needs, unit_needs}
 
 -- those that are done before it alone, if there are any
 abbrev before : ℕ → Need → Reach → Result Units Need
@@ -71,8 +77,10 @@ pub record StopsBehind {P : Type 0} (means : PagesMeaning P) (old new : P) (was 
   pub keeps : Kept f g count
   pub leaves : LeavesForks means old new was.tree tree f count
   pub unmade : MakesPages means f.name.tty 0 old new
+  pub loses : MayLose means old new
   pub planned : count ≡ 0 → StaysPlanned means.store old new
   pub needed : IsNeeded means.store unit_frames new n
+  pub reason : count ≡ 0 → UnitReason means old was f n
 
 module _ {P : Type 0} (means : PagesMeaning P) (old new : P) (was : Tables) (tree : PlainTree) (files : FileTables) (typed : List Typing) (f g : Fork) (n : Need) (lives : Lives was.tree.forks f) (unheld : AreUnheld (open_of was.files) was.jobs) (room : length was.typed ≡ TERMINALS) where
   none_done : StopsBehind means old new was tree files typed f g 0 n → UnitWaits means old new was (with_tree was tree files typed) f n
@@ -91,6 +99,7 @@ module _ {P : Type 0} (means : PagesMeaning P) (old new : P) (was : Tables) (tre
     leaves = s.leaves;
     unmade = record { made = s.unmade; planned = s.planned refl };
     needed = s.needed;
+    reason = s.reason refl;
   }
 
   some_done : (count : ℕ) (reach : Reach) → 1 ≤ count → StopsBehind means old new was tree files typed f g count n → UnitsRan means old new was (with_tree was tree files typed) f (record { count = count; shown = nothing; reach = reach })
@@ -106,6 +115,7 @@ module _ {P : Type 0} (means : PagesMeaning P) (old new : P) (was : Tables) (tre
     numbers = λ d fits. dir_stays was.files files (ap (λ (t : FileTables). t.dir) s.same);
     keeps = s.keeps;
     leaves = s.leaves;
+    loses = s.loses;
     unheld = subst (λ (t : FileTables). AreUnheld (open_of t) was.jobs) (sym s.same) unheld;
     typing_room = ap length s.same_typed ∙ room;
     shown = (tt, tt);
@@ -151,27 +161,41 @@ made_less : {P : Type 0} {means : PagesMeaning P} {p q : P} {t : _} → Makes me
 made_less m = record { lives = m.lives; forks = m.forks; most = m.most; own = omega (arith, m.own); others = m.others }
 
 -- one fork has another body, behind so many units that made no page
-module _ (was : Tables) (is : IsTree was.tree) (f : Fork) (lives : Lives was.tree.forks f) (body : Body) (count : ℕ) (keeps : Kept f (with_body body f) count) {P : Type 0} (means : PagesMeaning P) (old mid : P) (made : Makes means old mid f.name.tty 0) (undone : count ≡ 0 → mid ≡ old) (holds : Holds means old was.tree.forks) where
+module _ (was : Tables) (is : IsTree was.tree) (f : Fork) (lives : Lives was.tree.forks f) (body : Body) (count : ℕ) (keeps : Kept f (with_body body f) count) {P : Type 0} (means : PagesMeaning P) (old mid : P) (made : Makes means old mid f.name.tty 0) (undone : count ≡ 0 → mid ≡ old) (lost : MayLose means old mid) (holds : Holds means old was.tree.forks) where
   abbrev g : Fork
   g = with_body body f
 
+  same_fork : ((d : DrumWords) → means.fits old d → means.fits mid d × RanUpTo f (means.plain old d) count g (means.plain mid d)) → count ≡ 0 → (d : DrumWords) → means.fits old d → g ≡ f
+  same_fork told none d fits = (up_to_none f g (means.plain old d) (means.plain mid d) (subst (λ k. RanUpTo f (means.plain old d) k g (means.plain mid d)) none (told d fits).1)).0
+
+  -- where none was done, the unit that stops behind them is the first
+  stops_here : (last : Last) → ((d : DrumWords) → means.fits old d → means.fits mid d × RanUpTo f (means.plain old d) count g (means.plain mid d)) → ((d : DrumWords) → means.fits old d → UnitStops (framed means mid d) g last) → count ≡ 0
+      → (d : DrumWords) → means.fits old d → UnitStops (framed means old d) f last
+  stops_here last told stops none d fits =
+      subst (λ (k : Fork). UnitStops (framed means old d) k last) (same_fork told none d fits)
+      (subst (λ (x : P). UnitStops (framed means x d) g last) (undone none) (stops d fits))
+
   -- and a unit needs something first
-  pub unit_stops : (n : Need) → ((d : DrumWords) → means.fits old d → means.fits mid d × RanUpTo f (means.plain old d) count g (means.plain mid d)) → IsNeeded means.store unit_frames mid n → StopsBehind means old mid was (put_back was.tree g) was.files was.typed f g count n
-  unit_stops n told needed = record {
+  pub unit_stops : (n : Need) → ((d : DrumWords) → means.fits old d → means.fits mid d × RanUpTo f (means.plain old d) count g (means.plain mid d)) → ((d : DrumWords) → means.fits old d → UnitStops (framed means mid d) g (Needs n)) → IsNeeded means.store unit_frames mid n
+      → StopsBehind means old mid was (put_back was.tree g) was.files was.typed f g count n
+  unit_stops n told stops needed = record {
     told = λ d fits. (let t = told d fits in (t.0, refl, t.1));
     same = refl;
     same_typed = refl;
     keeps = keeps;
     leaves = leaves_one was.tree is f lives body count keeps means old mid holds (made_less made);
     unmade = made_none made;
+    loses = lost;
     planned = λ none. subst (StaysPlanned means.store old) (sym (undone none)) (planned_still means.store old);
     needed = needed;
+    reason = λ none d fits. unit_needs was.files (means.scene old) (parts_in (rest_of was) (means.plain old d)) f n (stops_here (Needs n) told stops none d fits);
   }
 
   -- or a call does
-  pub call_stops : (new : P) (tree : PlainTree) (files : FileTables) (typed : List Typing) (n : Need) → ((d : DrumWords) → means.fits old d → means.fits mid d × RanUpTo f (means.plain old d) count g (means.plain mid d)) → CallWaits means mid new (record was { tree = put_back was.tree g }) (with_tree was tree files typed) f.name n
+  pub call_stops : (new : P) (tree : PlainTree) (files : FileTables) (typed : List Typing) (number : ℕ) (n : Need) → ((d : DrumWords) → means.fits old d → means.fits mid d × RanUpTo f (means.plain old d) count g (means.plain mid d)) → ((d : DrumWords) → means.fits old d → UnitStops (framed means mid d) g (Calls number))
+      → CallWaits means mid new (record was { tree = put_back was.tree g }) (with_tree was tree files typed) f.name number n
       → StopsBehind means old new was tree files typed f g count n
-  call_stops new tree files typed n told waits = record {
+  call_stops new tree files typed number n told stops waits = record {
     told = λ d fits.
         let t = told d fits in
         let w = waits.told.each d t.0 in
@@ -183,12 +207,23 @@ module _ (was : Tables) (is : IsTree was.tree) (f : Fork) (lives : Lives was.tre
         (leaves_then was.tree is f lives body count keeps means old mid new tree 0 made
         (record { holds = waits.left.holds; kept = λ x e. elim (waits.left.kept x e) [ inl came ↦ inl (came_less (put_back was.tree g).forks x 0 came) | inr new ↦ inr new ]; caller = there; tops = waits.left.tops; made = waits.left.made }));
     unmade = made_on means f.name.tty 0 0 old mid new (made_none made) waits.unmade.made;
+    loses = lost_on means old mid new lost waits.left.loses;
     planned = λ none. subst (λ (s : P). StaysPlanned means.store s new) (undone none) waits.unmade.planned;
     needed = waits.needed;
+    reason = λ none d fits. call_needs was.files (means.scene old) (parts_in (rest_of was) (means.plain old d)) f n number (stops_here (Calls number) told stops none d fits) (turn_needs none d fits);
   }
     where
       none : count + 0 ≡ count
       none = omega arith
+
+      -- the turn of the call is that of the fork as it was
+      turn_needs : count ≡ 0 → (d : DrumWords) → means.fits old d → CallNeeds was.files (means.scene old) (parts_in (rest_of was) (means.plain old d)) f.name f.body.regs number n
+      turn_needs none d fits =
+          let behind : CallNeeds was.files (means.scene mid) (parts_in (rest_of (record was { tree = put_back was.tree g })) (means.plain mid d)) f.name g.body.regs number n = waits.reason g (get_put was.tree.forks g.name g.name g refl) d (told d fits).0 in
+          let before : CallNeeds was.files (means.scene old) (parts_in (rest_of (record was { tree = put_back was.tree g })) (means.plain old d)) f.name g.body.regs number n =
+          subst (λ (x : P). CallNeeds was.files (means.scene x) (parts_in (rest_of (record was { tree = put_back was.tree g })) (means.plain x d)) f.name g.body.regs number n) (undone none) behind in
+          subst (λ (x : PlainTree). CallNeeds was.files (means.scene old) (parts_in (rest_of (record was { tree = x })) (means.plain old d)) f.name f.body.regs number n) (ap (λ m. record was.tree { forks = m }) (put_itself was.tree.forks f.name f lives))
+          (subst (λ (k : Fork). CallNeeds was.files (means.scene old) (parts_in (rest_of (record was { tree = put_back was.tree k })) (means.plain old d)) f.name k.body.regs number n) (same_fork told none d fits) before)
 
       there : IsSome (map.get tree.forks g.name)
       there = waits.left.caller (leaves_one was.tree is f lives body count keeps means old mid holds (made_less made)).caller

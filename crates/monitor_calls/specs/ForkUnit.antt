@@ -33,7 +33,7 @@ use Rattle.plain_model.specs.declared.interrupt.Inspected.TheVariants.{Nothing a
 use Rattle.plain_model.specs.Inspections.{delivered, inspected, inspected_by, is_interrupted, stored_word}
 use Rattle.plain_model.specs.Interrupts.{forces, posted}
 use Rattle.page_contracts.specs.DrumWords.{DrumWords}
-use Rattle.page_contracts.specs.Pages.{PagesMeaning}
+use Rattle.page_contracts.specs.Pages.{MayLose, PagesMeaning}
 use Rattle.page_contracts.specs.Stores.{StoreMeaning, IsNeeded}
 use Rattle.plain_model.specs.Trees.{PlainTree}
 use Rattle.ka10_spots.specs.Once.{After, in_a_row}
@@ -46,7 +46,9 @@ use Rattle.job_forks.specs.Holding.{CallLeaves, Holds, IsNew, MakesPages, PlansO
 use Rattle.monitor_calls.specs.declared.job.Job.{Job}
 use Rattle.monitor_calls.specs.declared.typing.Typing.{Typing}
 use Rattle.monitor_calls.specs.Jobs.{AreUnheld, job_at, jobs_of}
+use Rattle.ka10_unit.specs.Gathers.{Framed, framed}
 use Rattle.monitor_calls.specs.Limits.{FitsForced, IsBody, unit_frames}
+use Rattle.monitor_calls.specs.Reasons.{CallNeeds, UnitNeeds, UnitStops}
 use Rattle.step_shown.specs.Shown.{FitsShown, nothing, shown_of, stands}
 use Rattle.monitor_calls.specs.Makings.{Makes, most_makings}
 use Rattle.step_shown.specs.declared.shown.Shown.{Shown}
@@ -249,12 +251,14 @@ pub record Kept (f g : Fork) (count : ℕ) : Type 0 where
   pub accumulators : length g.body.regs.ac ≡ ACCUMULATORS
   pub units : g.body.units ≡ f.body.units + count
 
--- one unit of a kind ran, over each drum that fits, or is a call, or needs something first
-pub record RanOne {P : Type 0} (leaving : Leaving) (means : PagesMeaning P) (old new : P) (f g : Fork) (last : Last) : Type 0 where
+-- one unit of a kind ran, over each drum that fits, or stops as a call, or as one that needs something first
+pub record RanOne {P : Type 0} (leaving : Leaving) (Stops : Framed → Fork → Last → Type 0) (means : PagesMeaning P) (old new : P) (f g : Fork) (last : Last) : Type 0 where
   pub told : (d : DrumWords) → means.fits old d → means.fits new d × IsOne leaving f (means.plain old d) g (means.plain new d) last
+  pub stops : (d : DrumWords) → means.fits old d → Stops (framed means new d) g last
   pub keeps : Kept f g (units_over last)
   pub made : Makes means old new f.name.tty (makings_of last)
   pub undone : units_over last ≡ 0 → new ≡ old
+  pub loses : MayLose means old new
   pub fits : FitsLast last
   pub needs : LastNeeds means.store new last
   pub core : means.flat ≡ true → IsMet last
@@ -262,9 +266,11 @@ pub record RanOne {P : Type 0} (leaving : Leaving) (means : PagesMeaning P) (old
 -- units of a fork ran in a row, over each drum that fits
 pub record Ran {P : Type 0} (means : PagesMeaning P) (old new : P) (f g : Fork) (row : Row) : Type 0 where
   pub told : (d : DrumWords) → means.fits old d → means.fits new d × IsRow f (means.plain old d) row.count g (means.plain new d) row.last
+  pub stops : (d : DrumWords) → means.fits old d → UnitStops (framed means new d) g row.last
   pub keeps : Kept f g row.count
   pub made : Makes means old new f.name.tty (makings_of row.last)
   pub undone : row.count ≡ 0 → new ≡ old
+  pub loses : MayLose means old new
   pub fits : FitsLast row.last
   pub needs : LastNeeds means.store new row.last
   pub core : means.flat ≡ true → IsMet row.last
@@ -335,6 +341,7 @@ pub record Called {P : Type 0} (means : PagesMeaning P) (old new : P) (was is : 
   pub numbers : (d : DrumWords) → means.fits old d → NumbersStay was.files.dir is.files.dir
   pub keeps : Kept f after 1
   pub leaves : LeavesForks means old new was.tree is.tree f 1
+  pub loses : MayLose means old new
   pub unheld : AreUnheld (open_of is.files) is.jobs
   pub typing_room : length is.typed ≡ TERMINALS
   pub fits : FitsShown shown
@@ -345,12 +352,21 @@ pub record StaysPlainly {P : Type 0} (means : PagesMeaning P) (old new : P) (was
   pub typed : is.typed ≡ was.typed
   pub each : (d : DrumWords) → means.fits old d → means.fits new d × (is.tree ≡ was.tree) × (means.plain new d ≡ means.plain old d)
 
--- a call was not made, since it needs this first, whatever the drum holds
-pub record CallWaits {P : Type 0} (means : PagesMeaning P) (old new : P) (was is : Tables) (who : ForkName) (n : Need) : Type 0 where
+-- why the turn of a call of a fork with these registers needs this first, over each drum that fits
+abbrev pub CallReason : {P : Type 0} → PagesMeaning P → P → Tables → ForkName → Regs → ℕ → Need → Type 0
+CallReason means p was who regs number n = (d : DrumWords) → means.fits p d → CallNeeds was.files (means.scene p) (parts_in (rest_of was) (means.plain p d)) who regs number n
+
+-- why a unit of a fork does
+abbrev pub UnitReason : {P : Type 0} → PagesMeaning P → P → Tables → Fork → Need → Type 0
+UnitReason means p was f n = (d : DrumWords) → means.fits p d → UnitNeeds was.files (means.scene p) (parts_in (rest_of was) (means.plain p d)) f n
+
+-- a call of a number was not made, since it needs this first, whatever the drum holds
+pub record CallWaits {P : Type 0} (means : PagesMeaning P) (old new : P) (was is : Tables) (who : ForkName) (number : ℕ) (n : Need) : Type 0 where
   pub told : StaysPlainly means old new was is
   pub left : CallLeaves means old new was.tree is.tree who most_makings
   pub unmade : PlansOnly means who.tty old new
   pub needed : IsNeeded means.store unit_frames new n
+  pub reason : (f : Fork) → map.get was.tree.forks who ≡ Some f → CallReason means old was who f.body.regs number n
 
 -- no unit was done, since the first needs this, whatever the drum holds
 pub record UnitWaits {P : Type 0} (means : PagesMeaning P) (old new : P) (was is : Tables) (f : Fork) (n : Need) : Type 0 where
@@ -358,6 +374,7 @@ pub record UnitWaits {P : Type 0} (means : PagesMeaning P) (old new : P) (was is
   pub leaves : LeavesForks means old new was.tree is.tree f 0
   pub unmade : PlansOnly means f.name.tty old new
   pub needed : IsNeeded means.store unit_frames new n
+  pub reason : UnitReason means old was f n
 
 -- units of a fork of a tree ran in a row, over each drum that fits: so many, and the last showed this
 pub record UnitsRan {P : Type 0} (means : PagesMeaning P) (old new : P) (was is : Tables) (f : Fork) (units : Units) : Type 0 where
@@ -368,6 +385,7 @@ pub record UnitsRan {P : Type 0} (means : PagesMeaning P) (old new : P) (was is 
   pub numbers : (d : DrumWords) → means.fits old d → NumbersStay was.files.dir is.files.dir
   pub keeps : Kept f after units.count
   pub leaves : LeavesForks means old new was.tree is.tree f units.count
+  pub loses : MayLose means old new
   pub unheld : AreUnheld (open_of is.files) is.jobs
   pub typing_room : length is.typed ≡ TERMINALS
   pub shown : FitsShown units.shown

@@ -29,7 +29,7 @@ ghost use Rattle.monitor_calls.specs.Reaching.{reach_of};
 ghost use Rattle.step_shown.specs.Shown.{shown_of};
 ghost use Rattle.monitor_calls.specs.Jobs.{AreUnheld};
 ghost use Rattle.monitor_calls.specs.Makings.{most_makings};
-ghost use Rattle.monitor_calls.specs.ForkUnit.{CallWaits, Called, HasJob, Place as APlace, Turns, answered as answered_of, fork_of, line_behind, out_in, tables_in};
+ghost use Rattle.monitor_calls.specs.ForkUnit.{CallReason, CallWaits, Called, HasJob, Place as APlace, Turns, answered as answered_of, fork_of, line_behind, out_in, tables_in};
 
 use crate::job::Job;
 use crate::row::post_channel;
@@ -141,6 +141,7 @@ fn turn<P: Pages>(
     ensures needs { AnswerNeeds P.means.store unit_frames pages.new result }
     ensures core { P.means.flat ≡ true → IsDone result }
     ensures unmade { (n : ANeed) → result ≡ Answer.Need n → PlansOnly P.means who.tty pages.old pages.new }
+    ensures reason { (n : ANeed) → result ≡ Answer.Need n → CallReason P.means pages.old (tables_in tree.old files.old jobs.now.items typed.old.items clock) who regs.now number n }
     ensures leaves { CallLeaves P.means pages.old pages.new tree.old tree.new who most_makings }
     ensures own { reach_of number ≡ Reach.Own → tree.new ≡ tree.old }
     ensures made { reach_of number ≡ Reach.Made → AddsLast who.tty tree.old tree.new }
@@ -322,7 +323,7 @@ pub fn called<P: Pages>(
     requires clock { clock < 2 ^ 63 }
     ensures called { (at : APlace) (b : ABody) → fork_in tree.old.forks who.fork.tty who.slot ≡ Some (fork_of who.fork at b)
         → IfOk result (Called P.means pages.old pages.new (tables_in tree.old files.old jobs.now.items typed.old.items clock) (tables_in tree.new files.new jobs.now.items typed.new.items clock) (fork_of who.fork at b) number) }
-    ensures needs { IfErr result (CallWaits P.means pages.old pages.new (tables_in tree.old files.old jobs.now.items typed.old.items clock) (tables_in tree.new files.new jobs.now.items typed.new.items clock) who.fork) }
+    ensures needs { IfErr result (CallWaits P.means pages.old pages.new (tables_in tree.old files.old jobs.now.items typed.old.items clock) (tables_in tree.new files.new jobs.now.items typed.new.items clock) who.fork number) }
     ensures core { P.means.flat ≡ true → IsOk result }
     ensures reach { Reaches (reach_of number) who.fork tree.old tree.new }
 {

@@ -11,6 +11,7 @@ ghost use Rattle.ka10_unit.specs.Gathers.{Serves};
 ghost use Rattle.plain_model.specs.Trees.{with_body};
 ghost use Rattle.monitor_calls.specs.Limits.{CanUnit};
 ghost use Rattle.step_shown.specs.Shown.{FitsShown, FitsStop, stands};
+ghost use Rattle.monitor_calls.specs.Reasons.{InspectionStops, InstructionStops};
 ghost use Rattle.monitor_calls.specs.ForkUnit.{HasRoom, Place as APlace, Ran, RanOne, behind_instruction, behind_interrupted, fork_of, post_shown, units_over};
 
 use fork_tree::post;
@@ -109,7 +110,7 @@ fn one_unit<P: Pages>(body: &mut Body, fork: ForkName, pages: &mut P, taken: &mu
     requires few { body.old.units < 2 ^ 63 }
     requires serves { Serves P.means pages.old fork }
     requires serial { P.means.serial pages.old fork.tty < 2 ^ 61 }
-    ensures { (at : APlace) → RanOne behind_instruction P.means pages.old pages.new (fork_of fork at body.old) (fork_of fork at body.new) result }
+    ensures { (at : APlace) → RanOne behind_instruction InstructionStops P.means pages.old pages.new (fork_of fork at body.old) (fork_of fork at body.new) result }
 {
     match slow_unit(taken, &mut body.regs, pages, fork) {
         Outcome::Done(post) => Last::Shows(ended(body, post)),
@@ -146,7 +147,7 @@ fn interrupted<P: Pages>(
     requires few { body.old.units < 2 ^ 63 }
     requires serves { Serves P.means pages.old fork }
     requires serial { P.means.serial pages.old fork.tty < 2 ^ 61 }
-    ensures { (at : APlace) → RanOne behind_interrupted P.means pages.old pages.new (fork_of fork at body.old) (fork_of fork at body.new) result }
+    ensures { (at : APlace) → RanOne behind_interrupted InspectionStops P.means pages.old pages.new (fork_of fork at body.old) (fork_of fork at body.new) result }
 {
     match inspect(&mut scratch.reader, body, fork, pages) {
         Err(why) => match why {

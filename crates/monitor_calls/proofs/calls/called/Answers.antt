@@ -20,7 +20,7 @@ use Rattle.job_forks.specs.Holding.{CallLeaves}
 use Rattle.job_forks.specs.Limits.{AreWithin, FitsForced, IsBody}
 use Rattle.file_tables.specs.Keys.{key_of}
 use Rattle.monitor_calls.specs.Limits.{unit_frames}
-use Rattle.monitor_calls.specs.ForkUnit.{Kept, LeavesForks, Tables, TurnedSo, answered, answered_turn, called_behind, fork_of, out_in, parts_in, put_back, put_in, rest_of, turn_behind}
+use Rattle.monitor_calls.specs.ForkUnit.{CallReason, Kept, LeavesForks, Tables, TurnedSo, answered, answered_turn, called_behind, fork_of, out_in, parts_in, put_back, put_in, rest_of, turn_behind}
 use Rattle.step_shown.specs.Shown.{FitsShown, FitsStop, shown_of, stop_of}
 use Rattle.monitor_calls.proofs.Calling.{done_else, out_fits, so_done}
 use Rattle.monitor_calls.proofs.Keeping.{answered_keeps}
@@ -154,6 +154,7 @@ returns-in-Some-body_mut-clause-called g c at b found =
       numbers = turn.told.numbers;
       unheld = turn.unheld;
       typing_room = turn.typing_room;
+      loses = left.loses;
       keeps = after_keeps old new was is left.kept f k lives fits stands.1 body keeps;
       leaves = subst (λ x. LeavesForks g.P.Pages.means c.args.pages.now c.turn-answer.new.pages old x f 1) (sym back)
           (turn_leaves old new was is left.kept f k lives fits stands.1 body keeps g.P.Pages.means c.args.pages.now c.turn-answer.new.pages left);
@@ -181,6 +182,13 @@ returns-in-Need-clause-needs g c =
       left = turn.leaves;
       unmade = turn.unmade n c.in-Need.is;
       needed = subst (AnswerNeeds means.store unit_frames c.turn-answer.new.pages) c.in-Need.is turn.needs;
+      reason = λ f lives.
+          let k = c.in-Some.fork.now in
+          let found : fork_in c.args.tree.now.forks who.tty c.args.who.slot ≡ Some k = sym c.in-Some.ensures.found in
+          let at : map.get c.args.tree.now.forks who ≡ Some k = ap (map.get c.args.tree.now.forks) (sym (c.requires.named k found)) ∙ (in_tells c.args.tree.now.forks c.fork_at.ensures.tree.slotted who.tty c.args.who.slot k found).0 in
+          let both : Some k ≡ Some f = sym at ∙ lives in
+          let same : k ≡ f = cc both in
+          subst (λ (h : Fork). CallReason means c.args.pages.now tables who h.body.regs c.args.number n) same (turn.reason n c.in-Need.is);
     }
 
 pub returns-in-Need-clause-core : goal.returns-in-Need-clause-core

@@ -1,14 +1,14 @@
 use Rattle.std.proofs.Common.{◌≡◌, ℕ, ◌<◌, ◌∙◌, length, None, Option, Some, inl, refl, sym, ap, subst, arith, length-set}
 use Rattle.std.specs.Prelude.{IsSome}
-use Rattle.plain_model.specs.ByteCalls.{byte_call}
-use Rattle.plain_model.specs.MapCalls.{map_call}
+use Rattle.plain_model.specs.ByteCalls.{ByteAsked, byte_call}
+use Rattle.plain_model.specs.MapCalls.{MapAsked, map_call}
 use Rattle.plain_model.specs.StringCalls.{string_call}
 use Rattle.plain_model.specs.Trees.{PlainTree}
 use Rattle.page_contracts.specs.Pages.{PagesMeaning}
 use Rattle.machine_names.specs.declared.names.ForkName.{ForkName}
 use Rattle.ka10_unit.proofs.Carried.{grows_none, grows_within}
 use Rattle.call_turns.specs.declared.family.CallFamily.{CallFamily}
-use Rattle.call_turns.specs.declared.family.CallFamily.TheVariants.{Forks, Interrupts, Clock}
+use Rattle.call_turns.specs.declared.family.CallFamily.TheVariants.{Forks, Interrupts, Clock, Maps, Jfns, Bytes, Strings}
 use Rattle.call_turns.specs.Families.{family_of}
 use Rattle.call_turns.specs.declared.answer.Answer.{Answer}
 use Rattle.call_turns.specs.declared.answer.Answer.TheVariants as answer
@@ -45,9 +45,10 @@ use Rattle.monitor_calls.specs.Limits.{unit_frames}
 use Rattle.monitor_calls.specs.ForkUnit.{Tables, line_behind, parts_in, rest_of}
 use Rattle.monitor_calls.specs.Jobs.{job_at, jobs_of}
 use Rattle.monitor_calls.specs.Makings.{most_makings}
-use Rattle.monitor_calls.proofs.ByteTurns.{byte_turned, has_line, string_turned}
+use Rattle.monitor_calls.proofs.ByteTurns.{byte_turned, bytes_asked, has_line, string_turned}
 use Rattle.monitor_calls.proofs.JfnTurns.{jfn_turned}
-use Rattle.monitor_calls.proofs.MapTurns.{map_grows, map_turned, map_unmade}
+use Rattle.monitor_calls.proofs.MapTurns.{map_grows, map_turned, map_unmade, maps_asked}
+use Rattle.monitor_calls.proofs.WhyNeeded.{by_family, no_reason, reason_of}
 use Rattle.monitor_calls.proofs.JfnsAsked.{dir_stays, jobs_held, numbers_follow, still_unheld}
 use Rattle.monitor_calls.proofs.Sounds.{entry_read, job_read, typing_read}
 use Rattle.monitor_calls.proofs.calls.turn.Goals as goal
@@ -464,3 +465,86 @@ returns-in-Interrupts-clause-made g c made = (let both : Some Forks ≡ Some Int
 
 pub returns-in-Clock-clause-made : goal.returns-in-Clock-clause-made
 returns-in-Clock-clause-made g c made = (let both : Some Forks ≡ Some Clock = sym (made_family c.args.number made) ∙ of_call c.args.number c.in-Some.ensures c.in-Clock.is in absurd (cc both))
+
+-- ---- why something is needed first
+
+pub returns-in_default-clause-reason : goal.returns-in_default-clause-reason
+returns-in_default-clause-reason g c n is = no_reason tt is
+
+pub returns-in-Printing-clause-reason : goal.returns-in-Printing-clause-reason
+returns-in-Printing-clause-reason g c n is = no_reason c.print_call.ensures.done is
+
+pub returns-in-Clock-clause-reason : goal.returns-in-Clock-clause-reason
+returns-in-Clock-clause-reason g c n is = no_reason c.call-in-Clock.ensures.done is
+
+pub returns-in-Errors-clause-reason : goal.returns-in-Errors-clause-reason
+returns-in-Errors-clause-reason g c n is = no_reason c.call-in-Errors.ensures.done is
+
+pub returns-in-Forks-clause-reason : goal.returns-in-Forks-clause-reason
+returns-in-Forks-clause-reason g c n is d fits =
+    let means = g.P.Pages.means in
+    let was : Tables = record { tree = c.args.tree.now; files = c.args.files.now; jobs = c.args.jobs.now.items; typed = c.args.typed.now.items; clock = c.args.clock } in
+    let pages = c.args.pages.now in
+    by_family (Some Forks) was.files (means.scene pages) (parts_in (rest_of was) (means.plain pages d)) c.args.who c.args.regs.now c.args.number n (of_call c.args.number c.in-Some.ensures c.in-Forks.is) (reason_of n is (c.fork_turn.ensures.told d fits).1)
+
+pub returns-in-Interrupts-clause-reason : goal.returns-in-Interrupts-clause-reason
+returns-in-Interrupts-clause-reason g c n is d fits =
+    let means = g.P.Pages.means in
+    let was : Tables = record { tree = c.args.tree.now; files = c.args.files.now; jobs = c.args.jobs.now.items; typed = c.args.typed.now.items; clock = c.args.clock } in
+    let who = c.args.who in
+    let pages = c.args.pages.now in
+    let typing = c.index_mut-in-Interrupts.result.now in
+    let job = c.requires.job in
+    let at = typing_read was.typed who.tty.0 typing job.typing_room job.terminal c.index_mut-in-Interrupts.ensures.value in
+    let j = some_of (job_at was.jobs who.tty.0) job.there in
+    let low = subst (λ n. who.tty.0 < n) (sym job.room) job.terminal in
+    let room = subst (λ n. who.tty.0 < n) (sym job.typing_room) job.terminal in
+    by_family (Some Interrupts) was.files (means.scene pages) (parts_in (rest_of was) (means.plain pages d)) who c.args.regs.now c.args.number n (of_call c.args.number c.in-Some.ensures c.in-Interrupts.is)
+    (reason_of n is (c.call.ensures.told.comes d (files_of was.files) (jobs_of (open_of was.files) was.typed was.jobs) was.clock fits (has_codes was who c.args.regs.now c.args.number j.0 j.1 typing at low room)))
+
+pub returns-in-Maps-clause-reason : goal.returns-in-Maps-clause-reason
+returns-in-Maps-clause-reason g c n is d fits =
+    let means = g.P.Pages.means in
+    let was : Tables = record { tree = c.args.tree.now; files = c.args.files.now; jobs = c.args.jobs.now.items; typed = c.args.typed.now.items; clock = c.args.clock } in
+    let pages = c.args.pages.now in
+    let p = means.plain pages d in
+    by_family (Some Maps) was.files (means.scene pages) (parts_in (rest_of was) p) c.args.who c.args.regs.now c.args.number n (of_call c.args.number c.in-Some.ensures c.in-Maps.is)
+    (subst (λ (a : MapAsked). MapNeeds was.files (means.scene pages) p (map_call c.args.number a) n) (sym (maps_asked was c.args.who c.args.regs.now c.args.number c.requires.job.unheld p)) (reason_of n is (c.call-in-Maps.ensures.told d fits).1))
+
+pub returns-in-Some-index-clause-reason : goal.returns-in-Some-index-clause-reason
+returns-in-Some-index-clause-reason g c n is d fits =
+    let means = g.P.Pages.means in
+    let was : Tables = record { tree = c.args.tree.now; files = c.args.files.now; jobs = c.args.jobs.now.items; typed = c.args.typed.now.items; clock = c.args.clock } in
+    let pages = c.args.pages.now in
+    by_family (Some Jfns) was.files (means.scene pages) (parts_in (rest_of was) (means.plain pages d)) c.args.who c.args.regs.now c.args.number n (of_call c.args.number c.in-Some.ensures c.in-Jfns.is)
+    (c.jfn_call.ensures.reads n is, reason_of n is (c.jfn_call.ensures.told.comes d (jobs_of (open_of was.files) was.typed was.jobs) fits (jobs_held was.typed was.jobs (open_of was.files) c.requires.job.unheld)))
+
+pub returns-in-Bytes-clause-reason : goal.returns-in-Bytes-clause-reason
+returns-in-Bytes-clause-reason g c n is d fits =
+    let means = g.P.Pages.means in
+    let was : Tables = record { tree = c.args.tree.now; files = c.args.files.now; jobs = c.args.jobs.now.items; typed = c.args.typed.now.items; clock = c.args.clock } in
+    let who = c.args.who in
+    let job = c.requires.job in
+    let j = some_of (job_at was.jobs who.tty.0) job.there in
+    let typing = c.index_mut-in-Bytes.result.now in
+    let at = typing_read was.typed who.tty.0 typing job.typing_room job.terminal c.index_mut-in-Bytes.ensures.value in
+    let pages = c.args.pages.now in
+    let p = means.plain pages d in
+    by_family (Some Bytes) was.files (means.scene pages) (parts_in (rest_of was) p) who c.args.regs.now c.args.number n (of_call c.args.number c.in-Some.ensures c.in-Bytes.is)
+    (subst (λ (a : ByteAsked). ByteNeeds was.files (means.scene pages) p (byte_call c.args.number a) n) (sym (bytes_asked was who c.args.regs.now c.args.number j.0 j.1 job.unheld typing at p))
+    (reason_of n is (c.call-in-Bytes.ensures.told.comes d (jobs_of (open_of was.files) was.typed was.jobs) fits (has_line was who c.args.regs.now c.args.number j.0 j.1 job.unheld typing at))))
+
+pub returns-in-Strings-clause-reason : goal.returns-in-Strings-clause-reason
+returns-in-Strings-clause-reason g c n is d fits =
+    let means = g.P.Pages.means in
+    let was : Tables = record { tree = c.args.tree.now; files = c.args.files.now; jobs = c.args.jobs.now.items; typed = c.args.typed.now.items; clock = c.args.clock } in
+    let who = c.args.who in
+    let job = c.requires.job in
+    let j = some_of (job_at was.jobs who.tty.0) job.there in
+    let typing = c.index_mut-in-Strings.result.now in
+    let at = typing_read was.typed who.tty.0 typing job.typing_room job.terminal c.index_mut-in-Strings.ensures.value in
+    let pages = c.args.pages.now in
+    let p = means.plain pages d in
+    by_family (Some Strings) was.files (means.scene pages) (parts_in (rest_of was) p) who c.args.regs.now c.args.number n (of_call c.args.number c.in-Some.ensures c.in-Strings.is)
+    (subst (λ (a : ByteAsked). StringNeeds was.files (means.scene pages) p (string_call c.args.number a) n) (sym (bytes_asked was who c.args.regs.now c.args.number j.0 j.1 job.unheld typing at p))
+    (reason_of n is (c.call-in-Strings.ensures.told.comes d (jobs_of (open_of was.files) was.typed was.jobs) fits (has_line was who c.args.regs.now c.args.number j.0 j.1 job.unheld typing at))))

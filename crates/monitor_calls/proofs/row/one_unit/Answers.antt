@@ -1,6 +1,8 @@
 use Rattle.std.proofs.Common.{arith, sym, ◌∙◌, ap, subst}
 use Rattle.ka10_deeds.specs.Done.{channel_of}
 use Rattle.plain_units.specs.Units.{unit_on}
+use Rattle.ka10_unit.specs.Gathers.{framed}
+use Rattle.ka10_unit.specs.Planning.{unit_over}
 use Rattle.ka10_unit.specs.Taking.{most_frames}
 use Rattle.page_contracts.proofs.Losing.{needed_more}
 use Rattle.monitor_calls.specs.Limits.{unit_frames}
@@ -22,10 +24,12 @@ returns-in-Done g c at =
           let p = g.P.Pages.means.plain c.args.pages.now d in
           let q = g.P.Pages.means.plain c.slow_unit.new.pages d in
           (told.0, λ key rest. done_behind key rest f p q regs (channel_of c.in-Done.post) told.1 ∙ (λ i. left_so rest (sym left i) q (sym ended.shown i)));
+      stops = λ d fits. tt;
       keeps = subst (λ h. Kept f h 1) (sym left) (ended_keeps f regs slow.pc (slow.accumulators ∙ c.requires.can.fits.accumulators) c.in-Done.post);
       made = record { lives = slow.grows.lives; forks = slow.grows.forks; most = slow.grows.most; own = omega (arith, slow.grows.serial); others = slow.grows.serials };
       fits = ended.fits;
       undone = λ none. absurd (cc none);
+      loses = slow.grows.loses;
       needs = tt;
       core = λ flat. tt;
     }
@@ -43,10 +47,12 @@ returns-in-Trap g c at =
           let p = g.P.Pages.means.plain c.args.pages.now d in
           let q = g.P.Pages.means.plain c.slow_unit.new.pages d in
           (told.0, λ key rest. trap_behind key rest f p q regs c.in-Trap.channel told.1 (ap (λ x. g.P.Pages.means.plain x d) slow.stopped.1) slow.stopped.0 ∙ (λ i. left_so rest (sym left i) q (sym posted.shown i)));
+      stops = λ d fits. tt;
       keeps = subst (λ h. Kept f h 1) (sym left) (posted_keeps f regs slow.pc (slow.accumulators ∙ c.requires.can.fits.accumulators) c.in-Trap.channel);
       made = record { lives = slow.grows.lives; forks = slow.grows.forks; most = slow.grows.most; own = omega (arith, slow.grows.serial); others = slow.grows.serials };
       fits = posted.fits;
       undone = λ none. absurd (cc none);
+      loses = slow.grows.loses;
       needs = tt;
       core = λ flat. tt;
     }
@@ -62,6 +68,7 @@ returns-in-Call g c at =
           let p = g.P.Pages.means.plain c.args.pages.now d in
           let pages = ap (λ x. g.P.Pages.means.plain x d) slow.stopped.1 in
           (told.0, ((λ i. fork_of c.args.fork at (record c.args.body.now { regs = sym slow.stopped.0 i })), sym pages, λ key rest. ap (behind key rest (record f { body = record f.body { regs = regs } }) (g.P.Pages.means.plain c.slow_unit.new.pages d)) ((λ i. unit_on c.args.fork (pages i) (slow.stopped.0 i)) ∙ told.1)));
+      stops = λ d fits. (λ i. unit_on c.args.fork (g.P.Pages.means.plain (slow.stopped.1 i) d) (slow.stopped.0 i)) ∙ (slow.told d fits).1;
       keeps = none_keeps f regs slow.pc (slow.accumulators ∙ c.requires.can.fits.accumulators);
       made = record {
         lives = slow.grows.lives;
@@ -72,6 +79,7 @@ returns-in-Call g c at =
       };
       fits = tt;
       undone = λ none. slow.stopped.1;
+      loses = slow.grows.loses;
       needs = tt;
       core = λ flat. tt;
     }
@@ -82,6 +90,7 @@ returns-in-Need g c at =
     let slow = c.in-Need.ensures in
     record {
       told = λ d fits. ((slow.told d fits).0, ((λ i. fork_of c.args.fork at (record c.args.body.now { regs = sym slow.stopped.0 i })), sym (ap (λ x. g.P.Pages.means.plain x d) slow.stopped.1)));
+      stops = λ d fits. (λ i. unit_over c.args.fork (framed g.P.Pages.means (slow.stopped.1 i) d) (slow.stopped.0 i)) ∙ slow.over d fits;
       keeps = none_keeps f c.slow_unit.new.regs slow.pc (slow.accumulators ∙ c.requires.can.fits.accumulators);
       made = record {
         lives = slow.grows.lives;
@@ -91,6 +100,7 @@ returns-in-Need g c at =
         others = slow.grows.serials;
       };
       undone = λ none. slow.stopped.1;
+      loses = slow.grows.loses;
       fits = tt;
       needs = needed_more g.P.Pages.means.store most_frames unit_frames c.slow_unit.new.pages c.in-Need.need (omega arith) slow.needs;
       core = slow.core;

@@ -7,6 +7,8 @@ use Rattle.machine_names.specs.declared.names.ForkName.{ForkName}
 use Rattle.machine_names.specs.declared.names.Tty.{Tty}
 use Rattle.plain_model.specs.Forks.{fork_in}
 use Rattle.page_contracts.specs.Pages.{PagesMeaning}
+use Rattle.ka10_spots.proofs.Stored.{lost_on}
+use Rattle.ka10_unit.specs.Gathers.{framed}
 use Rattle.plain_model.specs.Trees.{PlainTree, with_body}
 use Rattle.fork_tree.specs.Changes.{body_in, with_body_at}
 use Rattle.fork_tree.specs.Trees.{IsTree, Lives}
@@ -16,6 +18,7 @@ use Rattle.job_forks.specs.Limits.{AreWithin}
 use Rattle.job_forks.proofs.Holdings.{holds_still}
 use Rattle.monitor_calls.specs.Limits.{CanUnit}
 use Rattle.monitor_calls.specs.Makings.{Makes}
+use Rattle.monitor_calls.specs.Reasons.{UnitStops}
 use Rattle.monitor_calls.specs.ForkUnit.{CallWaits, FitsLast, HasRoom, IsMet, IsRow, LastNeeds, Kept, LeavesForks, Place, Ran, RanUnits, Tables, called_behind, fork_of, makings_of, put_back, rest_of}
 use Rattle.monitor_calls.proofs.Calling.{body_has, left_tree, still_in}
 use Rattle.monitor_calls.proofs.JfnsAsked.{dir_stays}
@@ -136,6 +139,7 @@ returns-in-Shows-clause-ran g c at b there =
       unheld = c.requires.job.unheld;
       typing_room = c.requires.job.typing_room;
       keeps = ran.keeps;
+      loses = ran.loses;
       leaves = subst (λ x. LeavesForks g.P.Pages.means c.args.pages.now c.units_to_call-row.new.pages tree x f row.count) (sym left)
           (leaves_one tree is f lives body row.count ran.keeps g.P.Pages.means c.args.pages.now c.units_to_call-row.new.pages c.requires.holds
           (subst (λ l. Makes g.P.Pages.means c.args.pages.now c.units_to_call-row.new.pages who.tty (makings_of l)) c.in-Shows.is ran.made));
@@ -170,6 +174,7 @@ returns-in-Ok-clause-ran g c at b there =
       numbers = λ d drum. called.numbers d (ran.told d drum).0;
       unheld = called.unheld;
       typing_room = called.typing_room;
+      loses = lost_on g.P.Pages.means c.args.pages.now c.units_to_call-row.new.pages c.called.new.pages ran.loses called.loses;
       keeps = more_keeps f mid called.after row.count 1 ran.keeps called.keeps;
       leaves = leaves_then tree is f lives body row.count ran.keeps g.P.Pages.means c.args.pages.now c.units_to_call-row.new.pages c.called.new.pages c.called.new.tree 1
           (subst (λ l. Makes g.P.Pages.means c.args.pages.now c.units_to_call-row.new.pages who.tty (makings_of l)) c.in-Calls.is ran.made)
@@ -195,8 +200,8 @@ returns-in-Err-clause-ran g c at b there =
     let old = c.args.pages.now in
     let now = c.units_to_call-row.new.pages in
     let made = subst (λ l. Makes means old now who.tty (makings_of l)) c.in-Calls.is ran.made in
-    let waits = subst (λ x. CallWaits means now c.called.new.pages (record was { tree = x }) (with_tree was c.called.new.tree c.called.new.files c.called.new.typed.items) who c.in-Err.need) left c.in-Err.ensures.needs in
-    let stops = call_stops was is f lives body row.count ran.keeps means old now made ran.undone c.requires.holds c.called.new.pages c.called.new.tree c.called.new.files c.called.new.typed.items c.in-Err.need (λ d fits. (let t = ran.told d fits in (t.0, (subst (IsRow f (means.plain old d) row.count mid (means.plain now d)) c.in-Calls.is t.1).0))) waits in
+    let waits = subst (λ x. CallWaits means now c.called.new.pages (record was { tree = x }) (with_tree was c.called.new.tree c.called.new.files c.called.new.typed.items) who c.in-Calls.number c.in-Err.need) left c.in-Err.ensures.needs in
+    let stops = call_stops was is f lives body row.count ran.keeps means old now made ran.undone ran.loses c.requires.holds c.called.new.pages c.called.new.tree c.called.new.files c.called.new.typed.items c.in-Calls.number c.in-Err.need (λ d fits. (let t = ran.told d fits in (t.0, (subst (IsRow f (means.plain old d) row.count mid (means.plain now d)) c.in-Calls.is t.1).0))) (λ d fits. subst (UnitStops (framed means now d) mid) c.in-Calls.is (ran.stops d fits)) waits in
     stops_ran means old c.called.new.pages was c.called.new.tree c.called.new.files c.called.new.typed.items f mid c.in-Err.need lives c.requires.job.unheld c.requires.job.typing_room row.count c.reach_of-reach.result c.done_before.result c.done_before.ensures stops
 
 pub returns-in-Err-clause-waits : goal.returns-in-Err-clause-waits
@@ -217,8 +222,8 @@ returns-in-Err-clause-waits g c at b there =
     let old = c.args.pages.now in
     let now = c.units_to_call-row.new.pages in
     let made = subst (λ l. Makes means old now who.tty (makings_of l)) c.in-Calls.is ran.made in
-    let waits = subst (λ x. CallWaits means now c.called.new.pages (record was { tree = x }) (with_tree was c.called.new.tree c.called.new.files c.called.new.typed.items) who c.in-Err.need) left c.in-Err.ensures.needs in
-    let stops = call_stops was is f lives body row.count ran.keeps means old now made ran.undone c.requires.holds c.called.new.pages c.called.new.tree c.called.new.files c.called.new.typed.items c.in-Err.need (λ d fits. (let t = ran.told d fits in (t.0, (subst (IsRow f (means.plain old d) row.count mid (means.plain now d)) c.in-Calls.is t.1).0))) waits in
+    let waits = subst (λ x. CallWaits means now c.called.new.pages (record was { tree = x }) (with_tree was c.called.new.tree c.called.new.files c.called.new.typed.items) who c.in-Calls.number c.in-Err.need) left c.in-Err.ensures.needs in
+    let stops = call_stops was is f lives body row.count ran.keeps means old now made ran.undone ran.loses c.requires.holds c.called.new.pages c.called.new.tree c.called.new.files c.called.new.typed.items c.in-Calls.number c.in-Err.need (λ d fits. (let t = ran.told d fits in (t.0, (subst (IsRow f (means.plain old d) row.count mid (means.plain now d)) c.in-Calls.is t.1).0))) (λ d fits. subst (UnitStops (framed means now d) mid) c.in-Calls.is (ran.stops d fits)) waits in
     stops_waits means old c.called.new.pages was c.called.new.tree c.called.new.files c.called.new.typed.items f mid c.in-Err.need lives c.requires.job.unheld c.requires.job.typing_room row.count c.reach_of-reach.result c.done_before.result c.done_before.ensures stops
 
 pub returns-in-Needs-clause-ran : goal.returns-in-Needs-clause-ran
@@ -241,7 +246,7 @@ returns-in-Needs-clause-ran g c at b there =
     let n = c.in-Needs.need in
     let made = subst (λ l. Makes means old now who.tty (makings_of l)) c.in-Needs.is ran.made in
     let stops = subst (λ x. StopsBehind means old now was x was.files was.typed f mid row.count n) (sym left)
-    (unit_stops was is f lives body row.count ran.keeps means old now made ran.undone c.requires.holds n (λ d fits. (let t = ran.told d fits in (t.0, subst (IsRow f (means.plain old d) row.count mid (means.plain now d)) c.in-Needs.is t.1))) (subst (LastNeeds means.store now) c.in-Needs.is ran.needs)) in
+    (unit_stops was is f lives body row.count ran.keeps means old now made ran.undone ran.loses c.requires.holds n (λ d fits. (let t = ran.told d fits in (t.0, subst (IsRow f (means.plain old d) row.count mid (means.plain now d)) c.in-Needs.is t.1))) (λ d fits. subst (UnitStops (framed means now d) mid) c.in-Needs.is (ran.stops d fits)) (subst (LastNeeds means.store now) c.in-Needs.is ran.needs)) in
     stops_ran means old now was _ was.files was.typed f mid n lives c.requires.job.unheld c.requires.job.typing_room row.count Own c.done_before-in-Needs.result c.done_before-in-Needs.ensures stops
 
 pub returns-in-Needs-clause-waits : goal.returns-in-Needs-clause-waits
@@ -264,7 +269,7 @@ returns-in-Needs-clause-waits g c at b there =
     let n = c.in-Needs.need in
     let made = subst (λ l. Makes means old now who.tty (makings_of l)) c.in-Needs.is ran.made in
     let stops = subst (λ x. StopsBehind means old now was x was.files was.typed f mid row.count n) (sym left)
-    (unit_stops was is f lives body row.count ran.keeps means old now made ran.undone c.requires.holds n (λ d fits. (let t = ran.told d fits in (t.0, subst (IsRow f (means.plain old d) row.count mid (means.plain now d)) c.in-Needs.is t.1))) (subst (LastNeeds means.store now) c.in-Needs.is ran.needs)) in
+    (unit_stops was is f lives body row.count ran.keeps means old now made ran.undone ran.loses c.requires.holds n (λ d fits. (let t = ran.told d fits in (t.0, subst (IsRow f (means.plain old d) row.count mid (means.plain now d)) c.in-Needs.is t.1))) (λ d fits. subst (UnitStops (framed means now d) mid) c.in-Needs.is (ran.stops d fits)) (subst (LastNeeds means.store now) c.in-Needs.is ran.needs)) in
     stops_waits means old now was _ was.files was.typed f mid n lives c.requires.job.unheld c.requires.job.typing_room row.count Own c.done_before-in-Needs.result c.done_before-in-Needs.ensures stops
 
 pub returns-in-Err-clause-core : goal.returns-in-Err-clause-core
