@@ -279,7 +279,7 @@ module _ {P : Type 0} {b : _} (m : System P b) (f : Fork) (trees : IsTree m.tree
     pub waits_unheld : AreUnheld (open_of files) m.jobs.items
     waits_unheld = subst (λ (x : FileTables). AreUnheld (open_of x) m.jobs.items) (sym waits.told.files) m.unheld
 
-    pub waits_still : (m' : System P b) → m'.files ≡ files → m'.pages ≡ q → m'.tree ≡ left → m'.jobs ≡ m.jobs → m'.typed.items ≡ typed → m'.panel ≡ m.panel → Waits m m' n
+    pub waits_still : (m' : System P b) → m'.files ≡ files → m'.pages ≡ q → m'.tree ≡ left → m'.jobs ≡ m.jobs → m'.typed.items ≡ typed → m'.panel ≡ m.panel → Waits unit_frames m m' n
     waits_still m' files_are pages_are tree_is jobs_are typed_are panel = record {
       each = λ d fits.
           let t = waits.told.each d fits.pages in

@@ -18,7 +18,7 @@ use Rattle.page_contracts.specs.Stores.{IsNeeded, StaysPlanned}
 use Rattle.plain_model.specs.Run.{apply, state_after, items_of, AreLegal}
 use Rattle.fork_tree.specs.Trees.{Lives}
 use Rattle.plain_model.specs.Forks.{IsRunnable, runs_in}
-use Rattle.monitor_calls.specs.Limits.{unit_frames}
+use Rattle.page_contracts.specs.declared.store.TheConstants.{MOST_HELD_FOR_CONSOLE}
 use Rattle.step_shown.specs.declared.reply.Reply.{Reply}
 use Rattle.monitor_core.specs.declared.system.System.{System}
 use Rattle.monitor_calls.specs.Jobs.{jobs_of}
@@ -78,11 +78,15 @@ pub record DidAll {P : Type 0} {b : _} (old new : System P b) (step : Step) (cou
   pub within : (entries : ℕ) → IsWithin old entries → IsWithin new (entries + count)
   pub most : b.means.most new.pages ≡ b.means.most old.pages
 
--- nothing is done, since this is needed first, whatever the drum holds: over each drum that fits, the system stands for the state for which it stood; and what was planned
--- is no use of a page
-pub record Waits {P : Type 0} {b : _} (old new : System P b) (n : Need) : Type 0 where
+-- how many frames an event of the console may want: as many as may be held for it
+abbrev pub event_frames : ℕ
+event_frames = MOST_HELD_FOR_CONSOLE
+
+-- nothing is done, since this is needed first, whatever the drum holds, of so many frames at most: over each drum that fits, the system stands for the state for which it
+-- stood; and what was planned is no use of a page
+pub record Waits {P : Type 0} {b : _} (frames : ℕ) (old new : System P b) (n : Need) : Type 0 where
   pub each : (d : DrumWords) → FitsPages old d → FitsPages new d × (state_of new d ≡ state_of old d)
   pub within : (entries : ℕ) → IsWithin old entries → IsWithin new entries
   pub most : b.means.most new.pages ≡ b.means.most old.pages
   pub planned : StaysPlanned b.means.store old.pages new.pages
-  pub needed : IsNeeded b.means.store unit_frames new.pages n
+  pub needed : IsNeeded b.means.store frames new.pages n

@@ -7,7 +7,7 @@ ghost use Rattle.script_texts.specs.declared.event.Step.{Step as AStep};
 ghost use Rattle.fork_tree.specs.Making.{room_for};
 ghost use Rattle.monitor_calls.specs.Jobs.{job_at};
 ghost use Rattle.step_shown.specs.Replies.{reply_of};
-ghost use Rattle.monitor_core.specs.Systems.{Did, Waits};
+ghost use Rattle.monitor_core.specs.Systems.{Did, Waits, event_frames};
 
 use crate::system::System;
 use fork_tree::NoFork;
@@ -48,7 +48,7 @@ impl<P: Pages> System<P> {
         requires free { job_at self.old.jobs.items t.0 ≡ None }
         requires unused { room_for self.old.tree t ≡ Ok tt }
         ensures did { IfOk result (λ done. Did self.old self.new (AStep.Outer (AnEvent.Login t user)) (reply_of done)) }
-        ensures waits { IfErr result (Waits self.old self.new) }
+        ensures waits { IfErr result (Waits event_frames self.old self.new) }
         ensures core { P.means.flat ≡ true → IsOk result }
         ensures others { OthersStay t self.old.tree.forks self.new.tree.forks }
     {

@@ -2,6 +2,7 @@
 ghost use Rattle.std.specs.Prelude.{◌≡◌, ◌<◌, ◌≤◌, ◌^◌, IfErr, IfOk, IsOk, IsSome, if◌then◌else◌, true};
 ghost use Rattle.plain_model.specs.Forks.{OthersStay, fork_in};
 ghost use Rattle.script_texts.specs.declared.event.Step.{Step as AStep};
+ghost use Rattle.monitor_calls.specs.Limits.{unit_frames};
 ghost use Rattle.step_shown.specs.Reaching.{EventReaches, Reaches};
 ghost use Rattle.step_shown.specs.Replies.{line_before};
 ghost use Rattle.step_shown.specs.Runners.{IsRunner, told_at};
@@ -70,7 +71,7 @@ impl<P: Pages> System<P> {
         requires few { IsWithin self.old (2 ^ 52) }
         requires some { 0 < most }
         ensures did { IfOk result (λ done. DidAll self.old self.new (AStep.Unit who.fork) done.count done.reply) }
-        ensures waits { IfErr result (Waits self.old self.new) }
+        ensures waits { IfErr result (Waits unit_frames self.old self.new) }
         ensures core { P.means.flat ≡ true → IsOk result }
         ensures reach { IfOk result (λ done. Reaches done.reach who.fork self.old.tree self.new.tree) }
         ensures others { OthersStay who.fork.tty self.old.tree.forks self.new.tree.forks }

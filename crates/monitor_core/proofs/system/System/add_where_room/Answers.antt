@@ -5,10 +5,10 @@ use Rattle.page_contracts.proofs.Planning.{planned_still}
 use Rattle.script_texts.specs.declared.event.Event.TheVariants.{Login}
 use Rattle.script_texts.specs.declared.event.Item.TheVariants.{Refusal}
 use Rattle.script_texts.specs.declared.event.Refusal.TheVariants.{Full}
-use Rattle.monitor_calls.specs.Limits.{unit_frames}
 use Rattle.step_shown.specs.declared.reply.Reply.TheVariants.{One}
 use Rattle.monitor_core.proofs.EventDid.{is_full}
 use Rattle.monitor_core.proofs.JobDid.{did_still}
+use Rattle.monitor_core.specs.Systems.{event_frames}
 use Rattle.monitor_core.proofs.Logins.{filled, none_first, none_held, unused}
 use Rattle.monitor_core.proofs.system.System.add_where_room.Goals as goal
 
@@ -26,7 +26,7 @@ returns-in-NeedFrame-clause-waits g c = record {
   within = λ entries w. w;
   most = refl;
   planned = planned_still g.P.Pages.means.store c.args.self.now.pages;
-  needed = needed_more g.P.Pages.means.store 1 unit_frames c.args.self.now.pages Frame (omega arith) (c.in-NeedFrame.ensures.frames refl);
+  needed = needed_more g.P.Pages.means.store 1 event_frames c.args.self.now.pages Frame (omega arith) (c.in-NeedFrame.ensures.frames refl);
 }
 
 pub returns-in-NeedFrame-clause-core : goal.returns-in-NeedFrame-clause-core
