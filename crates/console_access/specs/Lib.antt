@@ -1,3 +1,4 @@
 pub mod Holding
 pub mod Looking
+pub mod Needing
 pub mod Writing

@@ -7,6 +7,7 @@ mod address;
 mod file_end;
 mod forks;
 mod looking;
+mod readying;
 mod writing;
 
 pub use file_end::reach;

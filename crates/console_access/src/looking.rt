@@ -4,6 +4,7 @@ ghost use Rattle.machine_names.specs.Bounds.{IsAddress};
 ghost use Rattle.page_contracts.specs.DrumWords.{DrumWords};
 ghost use Rattle.page_contracts.specs.Stores.{IsNeeded};
 ghost use Rattle.console_access.specs.Holding.{Holds};
+ghost use Rattle.console_access.specs.Needing.{IsWordAway};
 ghost use Rattle.console_access.specs.Looking.{word_in};
 
 use crate::address::{offset_in_page, slot_at};
@@ -20,6 +21,7 @@ pub fn seen_word<P: Pages>(pages: &P, fork: &Fork, address: u32) -> Result<Optio
     requires address { IsAddress address }
     ensures told { (d : DrumWords) → P.means.fits pages.now d → IfOk result (λ seen. seen ≡ word_in (P.means.plain pages.now d) fork.now address) }
     ensures needs { IfErr result (IsNeeded P.means.store 1 pages.now) }
+    ensures reason { IfErr result (IsWordAway P.means pages.now fork.now.name address) }
     ensures core { P.means.flat ≡ true → IsOk result }
 {
     if address < ACCUMULATORS {

@@ -1,3 +1,4 @@
 pub mod JobEvents
 pub mod Systems
 pub mod Effects
+pub mod Needing

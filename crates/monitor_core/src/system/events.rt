@@ -1,16 +1,17 @@
 // Events that are one step.
-ghost use Rattle.std.specs.Prelude.{◌≡◌, ◌^◌, true};
+ghost use Rattle.std.specs.Prelude.{◌≡◌, ◌^◌, IfErr, IfOk, IsOk, true};
 ghost use Rattle.script_texts.specs.Limits.{FitsStep};
 ghost use Rattle.script_texts.specs.declared.event.Event.{Event as AnEvent};
 ghost use Rattle.script_texts.specs.declared.event.Step.{Step as AStep};
 ghost use Rattle.step_shown.specs.Reaching.{EventReaches};
 ghost use Rattle.step_shown.specs.Replies.{reply_of};
 ghost use Rattle.monitor_core.specs.Effects.{IsAtOnce};
-ghost use Rattle.monitor_core.specs.Systems.{CanDo, Did, IsWithin};
+ghost use Rattle.monitor_core.specs.Needing.{CanShow, EventNeeds};
+ghost use Rattle.monitor_core.specs.Systems.{CanDo, Did, IsWithin, Waits, event_frames};
 
 use crate::job_event::JobEvent;
 use crate::system::System;
-use page_contracts::Pages;
+use page_contracts::{Need, Pages};
 use script_texts::{Event, Item, Refusal};
 use step_shown::Reply;
 
@@ -19,6 +20,7 @@ impl<P: Pages> System<P> {
     fn tick(&mut self) -> Reply
         requires { IsWithin self.old (2 ^ 52) }
         ensures did { Did self.old self.new (AStep.Outer AnEvent.Tick) result }
+        ensures shown { CanShow self.new result }
         ensures reach { EventReaches AnEvent.Tick self.new.panel.clock self.old.tree self.new.tree }
     {
         self.panel.clock += 1;
@@ -30,20 +32,23 @@ impl<P: Pages> System<P> {
     // TRACE: whether each unit is shown.
     fn set_trace(&mut self, on: bool) -> Reply
         ensures did { Did self.old self.new (AStep.Outer (AnEvent.Trace on)) result }
+        ensures shown { CanShow self.new result }
         ensures tree { self.new.tree ≡ self.old.tree }
     {
         self.panel.trace = on;
         Reply::Nothing
     }
 
-    // An event that is one step, or why it is refused. It may need a page first, for which nobody waits yet: so it asks for
-    // pages in memory.
-    fn outer(&mut self, e: &Event) -> Result<Reply, Refusal>
+    // An event that is one step, or why it is refused. Err: it needs this first, and nothing is done.
+    fn outer(&mut self, e: &Event) -> Result<Result<Reply, Refusal>, Need>
         requires fits { FitsStep (AStep.Outer e.now) }
         requires once { IsAtOnce e.now }
-        requires flat { P.means.flat ≡ true }
         requires few { IsWithin self.old (2 ^ 52) }
-        ensures did { Did self.old self.new (AStep.Outer e.now) (reply_of result) }
+        ensures did { IfOk result (λ done. Did self.old self.new (AStep.Outer e.now) (reply_of done)) }
+        ensures shown { IfOk result (λ done. CanShow self.new (reply_of done)) }
+        ensures waits { IfErr result (Waits event_frames self.old self.new) }
+        ensures reason { IfErr result (EventNeeds self.new e.now) }
+        ensures core { P.means.flat ≡ true → IsOk result }
         ensures reach { EventReaches e.now self.new.panel.clock self.old.tree self.new.tree }
     {
         match e {
@@ -53,29 +58,33 @@ impl<P: Pages> System<P> {
             Event::Examine(t, serial, address) => {
                 self.at_job(*t, JobEvent::Examine(*serial, *address))
             }
-            Event::File(name) => self.make_file(name),
+            Event::File(name) => Ok(self.make_file(name)),
             Event::Words(name, page, offset, row) => self.write_words(name, *page, *offset, row),
             Event::Page(name, page) => self.show_page(name, *page),
             Event::Forks(t) => self.at_job(*t, JobEvent::Forks),
-            Event::Tick => Ok(self.tick()),
-            Event::Trace(on) => Ok(self.set_trace(*on)),
+            Event::Tick => Ok(Ok(self.tick())),
+            Event::Trace(on) => Ok(Ok(self.set_trace(*on))),
             Event::Run(_) | Event::Evict(_) | Event::Drum(_) | Event::Auto(_) => unreachable!(),
             Event::TypeIn(..) => unreachable!(),
         }
     }
 
-    /// Does an event that is one step.
-    pub fn apply(&mut self, e: &Event) -> Reply
+    /// Does an event that is one step; what its reply shows is in a frame then. Err: it needs this first, and nothing is done.
+    pub fn apply(&mut self, e: &Event) -> Result<Reply, Need>
         requires can { CanDo self.old (AStep.Outer e.now) }
         requires once { IsAtOnce e.now }
-        requires flat { P.means.flat ≡ true }
         requires few { IsWithin self.old (2 ^ 52) }
-        ensures did { Did self.old self.new (AStep.Outer e.now) result }
+        ensures did { IfOk result (Did self.old self.new (AStep.Outer e.now)) }
+        ensures shown { IfOk result (CanShow self.new) }
+        ensures waits { IfErr result (Waits event_frames self.old self.new) }
+        ensures reason { IfErr result (EventNeeds self.new e.now) }
+        ensures core { P.means.flat ≡ true → IsOk result }
         ensures reach { EventReaches e.now self.new.panel.clock self.old.tree self.new.tree }
     {
         match self.outer(e) {
-            Ok(reply) => reply,
-            Err(cause) => Reply::One(Item::Refusal(cause)),
+            Ok(Ok(reply)) => Ok(reply),
+            Ok(Err(cause)) => Ok(Reply::One(Item::Refusal(cause))),
+            Err(need) => Err(need),
         }
     }
 }

@@ -7,6 +7,7 @@ ghost use Rattle.script_texts.specs.declared.event.Step.{Step as AStep};
 ghost use Rattle.fork_tree.specs.Making.{room_for};
 ghost use Rattle.monitor_calls.specs.Jobs.{job_at};
 ghost use Rattle.step_shown.specs.Replies.{reply_of};
+ghost use Rattle.monitor_core.specs.Needing.{CanShow, EventNeeds};
 ghost use Rattle.monitor_core.specs.Systems.{Did, Waits, event_frames};
 
 use crate::system::System;
@@ -27,6 +28,7 @@ impl<P: Pages> System<P> {
         requires room { P.means.count self.old.pages < P.means.most self.old.pages }
         requires frame { 0 < (P.means.scene self.old.pages).free_frames }
         ensures did { Did self.old self.new (AStep.Outer (AnEvent.Login t user)) result }
+        ensures shown { CanShow self.new result }
         ensures others { OthersStay t self.old.tree.forks self.new.tree.forks }
     {
         self.tree.are_trees();
@@ -48,7 +50,9 @@ impl<P: Pages> System<P> {
         requires free { job_at self.old.jobs.items t.0 ≡ None }
         requires unused { room_for self.old.tree t ≡ Ok tt }
         ensures did { IfOk result (λ done. Did self.old self.new (AStep.Outer (AnEvent.Login t user)) (reply_of done)) }
+        ensures shown { IfOk result (λ done. CanShow self.new (reply_of done)) }
         ensures waits { IfErr result (Waits event_frames self.old self.new) }
+        ensures reason { IfErr result (EventNeeds self.new (AnEvent.Login t user)) }
         ensures core { P.means.flat ≡ true → IsOk result }
         ensures others { OthersStay t self.old.tree.forks self.new.tree.forks }
     {
@@ -61,24 +65,27 @@ impl<P: Pages> System<P> {
     }
 
     /// LOGIN: a user gets a job. Busy, where the terminal has one; SerialsOut, where its serials are used up;
-    /// Full, where the drum is.
-    pub(crate) fn login(&mut self, t: Tty, user: DirName) -> Result<Reply, Refusal>
+    /// Full, where the drum is. Err: its map finds no frame, and nothing is done.
+    pub(crate) fn login(
+        &mut self,
+        t: Tty,
+        user: DirName,
+    ) -> Result<Result<Reply, Refusal>, Need>
         requires terminal { IsTerminal t }
-        requires flat { P.means.flat ≡ true }
-        ensures did { Did self.old self.new (AStep.Outer (AnEvent.Login t user)) (reply_of result) }
+        ensures did { IfOk result (λ done. Did self.old self.new (AStep.Outer (AnEvent.Login t user)) (reply_of done)) }
+        ensures shown { IfOk result (λ done. CanShow self.new (reply_of done)) }
+        ensures waits { IfErr result (Waits event_frames self.old self.new) }
+        ensures reason { IfErr result (EventNeeds self.new (AnEvent.Login t user)) }
+        ensures core { P.means.flat ≡ true → IsOk result }
         ensures others { OthersStay t self.old.tree.forks self.new.tree.forks }
     {
         if self.jobs[t.0 as usize].is_some() {
-            return Err(Refusal::Busy(t));
+            return Ok(Err(Refusal::Busy(t)));
         }
         self.tree.are_trees();
         match self.tree.can_make(t) {
-            Ok(()) => match self.add_where_room(t, user) {
-                Ok(done) => done,
-                // Pages in memory alone need nothing first.
-                Err(_) => unreachable!(),
-            },
-            Err(NoFork::SerialsOut) => Err(Refusal::SerialsOut(t)),
+            Ok(()) => self.add_where_room(t, user),
+            Err(NoFork::SerialsOut) => Ok(Err(Refusal::SerialsOut(t))),
             // Where no job is, no slot is in use.
             Err(NoFork::ForksFull) => unreachable!(),
         }

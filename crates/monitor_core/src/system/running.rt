@@ -6,6 +6,7 @@ ghost use Rattle.monitor_calls.specs.Limits.{unit_frames};
 ghost use Rattle.step_shown.specs.Reaching.{EventReaches, Reaches};
 ghost use Rattle.step_shown.specs.Replies.{line_before};
 ghost use Rattle.step_shown.specs.Runners.{IsRunner, told_at};
+ghost use Rattle.monitor_core.specs.Needing.{CanShow};
 ghost use Rattle.monitor_core.specs.Systems.{DidAll, IsWithin, Waits};
 
 use crate::system::System;
@@ -71,6 +72,7 @@ impl<P: Pages> System<P> {
         requires few { IsWithin self.old (2 ^ 52) }
         requires some { 0 < most }
         ensures did { IfOk result (λ done. DidAll self.old self.new (AStep.Unit who.fork) done.count done.reply) }
+        ensures shown { IfOk result (λ done. CanShow self.new done.reply) }
         ensures waits { IfErr result (Waits unit_frames self.old self.new) }
         ensures core { P.means.flat ≡ true → IsOk result }
         ensures reach { IfOk result (λ done. Reaches done.reach who.fork self.old.tree self.new.tree) }

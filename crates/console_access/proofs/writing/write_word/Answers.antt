@@ -1,18 +1,33 @@
-use Rattle.std.proofs.Common.{refl, ap}
-use Rattle.std.specs.Prelude.{Ok, Err}
+use Rattle.std.proofs.Common.{refl, ap, subst}
+use Rattle.std.specs.Prelude.{Ok, Err, OnOk}
+use Rattle.machine_names.specs.declared.names.Place.TheVariants.{Fork}
+use Rattle.plain_pages.specs.References.{in_map}
+use Rattle.ka10_spots.proofs.Stored.{lost_on}
+use Rattle.console_access.specs.Needing.{OpensOver}
+use Rattle.console_access.specs.Writing.{IsReadied}
 use Rattle.console_access.proofs.writing.write_word.Goals as goal
 
-pub returns-in-Ok-clause-told : goal.returns-in-Ok-clause-told
-returns-in-Ok-clause-told g c = record {
+pub returns-in-Ok-Ok-clause-told : goal.returns-in-Ok-Ok-clause-told
+returns-in-Ok-Ok-clause-told g c = record {
   each = λ d f.
-      let ready = c.in-Ok.ensures.told d f in
-      let put = c.put.ensures.told d ready.0 in
-      (put.0, record { ready = g.P.Pages.means.plain c.readied.new.pages d; tried = Ok tt; readied = ready.1; is = refl; store = λ done is. put.1; stays = tt });
+      let means = g.P.Pages.means in
+      let mid = c.readied.new.pages in
+      let ready = c.in-Ok-Ok.ensures.told d f in
+      let put = c.put_word.ensures.told d ready.0 in
+      let opens = subst (λ done. OnOk done (OpensOver means mid d (Fork c.args.slot) c.args.slot.fork.tty)) c.in-Ok-Ok.field-0-is (c.in-Ok-Ok.ensures.open d f) in
+      let readied = subst (IsReadied (means.plain c.args.pages.now d) (means.plain mid d) (in_map c.args.slot) c.args.slot.fork.tty) c.in-Ok-Ok.field-0-is ready.1 in
+      (put.0, record { ready = means.plain mid d; tried = Ok tt; readied = readied; is = refl; store = λ done is. put.1 opens; stays = tt });
 }
 
-pub returns-in-Err-clause-told : goal.returns-in-Err-clause-told
-returns-in-Err-clause-told g c = record {
+pub returns-in-Ok-Ok-clause-loses : goal.returns-in-Ok-Ok-clause-loses
+returns-in-Ok-Ok-clause-loses g c = lost_on g.P.Pages.means c.args.pages.now c.readied.new.pages c.put_word.new.pages c.in-Ok-Ok.ensures.loses c.put_word.ensures.loses
+
+pub returns-in-Ok-Err-clause-told : goal.returns-in-Ok-Err-clause-told
+returns-in-Ok-Err-clause-told g c = record {
   each = λ d f.
-      let told = c.in-Err.ensures.told d f in
-      (told.0, record { ready = g.P.Pages.means.plain c.readied.new.pages d; tried = Err c.in-Err.barred; readied = told.1; is = ap Err c.poke_refusal.ensures; store = λ done e. absurd (cc e); stays = told.1.stays });
+      let means = g.P.Pages.means in
+      let mid = c.readied.new.pages in
+      let told = c.in-Ok-Err.ensures.told d f in
+      let readied = subst (IsReadied (means.plain c.args.pages.now d) (means.plain mid d) (in_map c.args.slot) c.args.slot.fork.tty) c.in-Ok-Err.field-0-is told.1 in
+      (told.0, record { ready = means.plain mid d; tried = Err c.in-Ok-Err.barred; readied = readied; is = ap Err c.poke_refusal.ensures; store = λ done e. absurd (cc e); stays = readied.stays });
 }
