@@ -2,6 +2,6 @@ pub mod ShownWords
 pub mod Looks
 mod Changing
 mod Making
-mod Away
+pub mod Away
 mod Judging
 pub mod Writes

@@ -1,5 +1,5 @@
 // A file's page, given to a taker.
-ghost use Rattle.std.specs.Prelude.{◌≡◌, ◌<◌, ◌∷◌, [], true};
+ghost use Rattle.std.specs.Prelude.{◌≡◌, ◌<◌, ◌∷◌, []};
 ghost use Rattle.outside.specs.declared.TheConstants.{PAGE_WORDS as WORDS};
 ghost use Rattle.page_contracts.specs.Pages.{IsPlace, spot_of};
 ghost use Rattle.plain_pages.specs.References.{word_at, words_at};
@@ -7,6 +7,8 @@ ghost use Rattle.plain_model.specs.FileEvents.{words_shown};
 ghost use Rattle.machine_names.specs.Bounds.{IsFileName};
 ghost use Rattle.machine_names.specs.declared.names.TheConstants.{SPACE_PAGES};
 ghost use Rattle.step_shown.specs.Replies.{page_items};
+ghost use Rattle.step_shown.specs.declared.reply.Reply.{Reply as AReply};
+ghost use Rattle.monitor_core.specs.Needing.{CanShow, IsInFrames};
 ghost use Rattle.monitor_core.specs.Systems.{FitsPages, state_of};
 ghost use Rattle.machine_events.specs.Giving.{TookOver};
 
@@ -16,14 +18,14 @@ use outside::{Failed, PAGE_WORDS};
 use page_contracts::{Pages, Peeked};
 use script_texts::{Item, Taker};
 
-// Gives the word at an offset of a page, if it isn't 0.
+// Gives the word at an offset of a page that is in a frame, if it isn't 0.
 fn give_word<P: Pages, T: Taker>(
     pages: &P,
     at: Place,
     offset: u16,
     out: &mut T,
 ) -> Result<(), Failed>
-    requires flat { P.means.flat ≡ true }
+    requires there { IsInFrames P.means pages.now at }
     requires place { IsPlace (P.means.lives pages.now) at }
     requires offset { offset < WORDS }
     ensures { TookOver (P.means.fits pages.now) T.fault_count T.onward T.stands T.cut out.old out.new result
@@ -37,14 +39,14 @@ fn give_word<P: Pages, T: Taker>(
             out.item(Item::PageWord(offset, word))
         }
         Peeked::NoPage => Ok(()),
-        // Flat pages are always in core.
-        Peeked::Absent(_) => unreachable!(),
+        // It is in a frame.
+        Peeked::Absent(_) => Ok(()),
     }
 }
 
-// Gives the words of a page that aren't 0, each with its offset.
+// Gives the words of a page that aren't 0, each with its offset. The page is in a frame.
 fn give_words<P: Pages, T: Taker>(pages: &P, at: Place, out: &mut T) -> Result<(), Failed>
-    requires flat { P.means.flat ≡ true }
+    requires there { IsInFrames P.means pages.now at }
     requires place { IsPlace (P.means.lives pages.now) at }
     ensures { TookOver (P.means.fits pages.now) T.fault_count T.onward T.stands T.cut out.old out.new result
         (λ d. words_shown 0 (words_at (P.means.plain pages.now d) (spot_of at))) [] }
@@ -55,7 +57,7 @@ fn give_words<P: Pages, T: Taker>(pages: &P, at: Place, out: &mut T) -> Result<(
     Ok(())
 }
 
-/// Gives a file's page, if it is there.
+/// Gives a file's page, if it is there; it is in a frame.
 #[inline(never)]
 pub fn give_page<P: Pages, T: Taker>(
     system: &System<P>,
@@ -65,7 +67,7 @@ pub fn give_page<P: Pages, T: Taker>(
 ) -> Result<(), Failed>
     requires name { IsFileName name.now }
     requires page { page < SPACE_PAGES }
-    requires flat { P.means.flat ≡ true }
+    requires shown { CanShow system.now (AReply.Page name.now page) }
     ensures { TookOver (FitsPages system.now) T.fault_count T.onward T.stands T.cut out.old out.new result (λ d. page_items (state_of system.now d) name.now page) [] }
 {
     let Some(file) = system.files().find(name) else {

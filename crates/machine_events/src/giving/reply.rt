@@ -1,9 +1,10 @@
 // The items of a reply, and the steps behind them, given to a taker.
-ghost use Rattle.std.specs.Prelude.{◌≡◌, ◌<◌, ◌≤◌, [], replicate, true};
+ghost use Rattle.std.specs.Prelude.{◌<◌, ◌≤◌, [], replicate};
 ghost use Rattle.script_texts.specs.Limits.{FitsStep};
 ghost use Rattle.script_texts.specs.Follows.{IsTurn};
 ghost use Rattle.machine_events.specs.Giving.{TookAll, TookOver};
 ghost use Rattle.step_shown.specs.Replies.{FitsReply, reply_items};
+ghost use Rattle.monitor_core.specs.Needing.{CanShow};
 ghost use Rattle.monitor_core.specs.Systems.{FitsPages, state_of};
 
 use crate::giving::forks::give_forks;
@@ -29,11 +30,11 @@ fn give_steps<T: Taker>(step: &Step, count: u32, out: &mut T) -> Result<(), Fail
     }
 }
 
-// Gives the items of a reply, one by one.
+// Gives the items of a reply, one by one; a page among them is in a frame.
 #[inline(always)]
 fn give<P: Pages, T: Taker>(system: &System<P>, reply: Reply, out: &mut T) -> Result<(), Failed>
     requires reply { FitsReply reply }
-    requires flat { P.means.flat ≡ true }
+    requires shown { CanShow system.now reply }
     ensures { TookOver (FitsPages system.now) T.fault_count T.onward T.stands T.cut out.old out.new result (λ d. reply_items (state_of system.now d) reply) [] }
 {
     match reply {
@@ -45,7 +46,7 @@ fn give<P: Pages, T: Taker>(system: &System<P>, reply: Reply, out: &mut T) -> Re
     }
 }
 
-/// Gives so many equal steps, the last of them behind the items that it shows.
+/// Gives so many equal steps, the last of them behind the items that it shows; a page among them is in a frame.
 pub fn give_all<P: Pages, T: Taker>(
     system: &System<P>,
     step: &Step,
@@ -57,7 +58,7 @@ pub fn give_all<P: Pages, T: Taker>(
     requires some { 1 ≤ count }
     requires turn { 1 < count → IsTurn step.now }
     requires reply { FitsReply reply }
-    requires flat { P.means.flat ≡ true }
+    requires shown { CanShow system.now reply }
     ensures { TookOver (FitsPages system.now) T.fault_count T.onward T.stands T.cut out.old out.new result (λ d. reply_items (state_of system.now d) reply) (replicate count step.now) }
 {
     if reply.is_silent() {

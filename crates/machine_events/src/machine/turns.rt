@@ -29,7 +29,11 @@ impl<P: Pages> Machine<P> {
         ensures { Acted T.fault_count T.onward T.stands T.cut self.old self.new out.old out.new result e }
     {
         self.system.trees();
-        let reply = self.system.apply(&e);
+        let reply = match self.system.apply(&e) {
+            Ok(reply) => reply,
+            // Pages in memory alone need nothing first.
+            Err(_) => unreachable!(),
+        };
         follow_event(&mut self.lists, self.system.forks(), &e);
         self.done += 1;
         give_all(&self.system, &Step::Outer(e), 1, reply, out)

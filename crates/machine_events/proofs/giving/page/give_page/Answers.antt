@@ -8,6 +8,8 @@ use Rattle.plain_pages.specs.References.{in_file, words_at}
 use Rattle.plain_model.specs.FileEvents.{words_shown}
 use Rattle.script_texts.specs.declared.event.Item.TheVariants.{PageLine}
 use Rattle.machine_events.specs.Giving.{Takes, TookOver}
+use Rattle.machine_names.specs.declared.names.Place.TheVariants.{File}
+use Rattle.monitor_core.specs.Needing.{IsInFrames}
 use Rattle.monitor_core.specs.Systems.{FitsPages}
 use Rattle.monitor_core.proofs.FileDid.{is_missing, no_file_items, no_page_items, none_there, page_at_file, some_items, some_there}
 use Rattle.machine_events.proofs.Given.{on_err, taker_then, takes_part, takes_then, took_nothing}
@@ -61,3 +63,9 @@ returns g c =
           subst (λ is. Takes g.T.Taker.stands g.T.Taker.cut c.args.out.now c.give_words.new.out r is []) (sym (some_items m c.args.name.now c.args.page d fits f found.0 found.1 there.0 page))
           (takes_then g.T.Taker.stands g.T.Taker.cut _ _ _ r (PageLine c.args.name.now c.args.page ∷ []) (words_shown 0 (words_at p (in_file (file_page f c.args.page)))) [] [] c.in_ok-item.ensures.ok (words.given d fits.pages));
     }
+
+pub give_words-requires-clause-there : goal.give_words-requires-clause-there
+give_words-requires-clause-there g c =
+    let f = c.in-Some.file.0 in
+    let found = subst (λ (x : FileTables). IsThere x f × (name_of x.dir f ≡ c.args.name.now)) c.files.ensures c.in-Some.ensures.found in
+    subst (λ q. IsInFrames g.P.Pages.means q (File c.in-Some.file c.args.page)) (sym c.pages-pages.ensures) (c.requires.shown f found.0 found.1)

@@ -1,9 +1,10 @@
-use Rattle.std.proofs.Common.{◌∷◌, [], sym, ◌∙◌, ap, subst}
+use Rattle.std.proofs.Common.{◌≡◌, ◌∷◌, [], None, Some, inl, inr, sym, ◌∙◌, ap, subst}
 use Rattle.std.proofs.lemmas.Bool.{ne_eqb}
 use Rattle.page_contracts.specs.Pages.{spot_of}
 use Rattle.plain_model.specs.FileEvents.{words_shown}
 use Rattle.machine_events.specs.Giving.{Takes}
 use Rattle.machine_events.proofs.Given.{took_nothing}
+use Rattle.console_access.proofs.Away.{peek_away}
 use Rattle.console_access.proofs.ShownWords.{no_word, shown_word, shown_zero, word_found}
 use Rattle.machine_events.proofs.giving.page.give_word.Goals as goal
 
@@ -33,3 +34,15 @@ returns-in-NoPage g c =
     let pages = c.args.pages.now in
     took_nothing (means.fits pages) g.T.Taker.fault_count g.T.Taker.onward g.T.Taker.stands g.T.Taker.cut c.args.out.now tt _
     (λ d f. shown_zero c.args.offset _ (no_word (means.plain pages d) (means.scene pages) (spot_of c.args.at) c.args.offset c.requires.offset (c.in-NoPage.ensures.told d f)))
+
+pub returns-in-Absent : goal.returns-in-Absent
+returns-in-Absent g c =
+    let means = g.P.Pages.means in
+    let pages = c.args.pages.now in
+    took_nothing (means.fits pages) g.T.Taker.fault_count g.T.Taker.onward g.T.Taker.stands g.T.Taker.cut c.args.out.now tt _
+    (λ d f.
+        let there = c.requires.there d f in
+        elim (peek_away (means.plain pages d) (means.scene pages) (spot_of c.args.at) c.args.offset c.in-Absent.field-0 (c.in-Absent.ensures.told d f)) [
+          | inl maps ↦ absurd (let no : None ≡ Some c.in-Absent.field-0.0 = sym there.0 ∙ maps in cc no)
+          | inr page ↦ absurd (let no : None ≡ Some c.in-Absent.field-0.0 = sym there.1 ∙ page in cc no)
+        ])

@@ -2,6 +2,7 @@ use Rattle.std.proofs.Common.{[], sym, subst}
 use Rattle.plain_model.specs.Trees.{PlainTree}
 use Rattle.machine_events.specs.Giving.{TookItems, TookOver}
 use Rattle.step_shown.specs.Replies.{fork_items, reply_items}
+use Rattle.monitor_core.specs.Needing.{CanShow}
 use Rattle.monitor_core.specs.Systems.{FitsPages, state_of}
 use Rattle.machine_events.proofs.Given.{over_drums}
 use Rattle.machine_events.proofs.giving.reply.give.Goals as goal
@@ -16,3 +17,6 @@ pub returns-in-Ran : goal.returns-in-Ran
 returns-in-Ran g c =
     subst (λ r. TookOver (FitsPages c.args.system.now) g.T.Taker.fault_count g.T.Taker.onward g.T.Taker.stands g.T.Taker.cut c.args.out.now c.give_ran.new.out c.give_ran.result (λ d. reply_items (state_of c.args.system.now d) r) []) (sym c.in-Ran.is)
     (over_drums (FitsPages c.args.system.now) g.T.Taker.fault_count g.T.Taker.onward g.T.Taker.stands g.T.Taker.cut c.give_ran.ensures)
+
+pub give_page-requires-clause-shown : goal.give_page-requires-clause-shown
+give_page-requires-clause-shown g c = subst (CanShow c.args.system.now) c.in-Page.is c.requires.shown

@@ -56,3 +56,6 @@ end_row-requires-clause-row g c = fewer_row c.args.self.now.lists.sched c.args.m
 
 pub unreachable-requires : goal.unreachable-requires
 unreachable-requires g c = (let no = c.in-Err.ensures.core c.args.self.now.flat in absurd (cc no))
+
+pub give_all-requires-clause-shown : goal.give_all-requires-clause-shown
+give_all-requires-clause-shown g c = c.in-Ok.ensures.shown

@@ -19,8 +19,8 @@ returns-then-is_some-clause-did g c =
 pub add_where_room-requires-clause-free : goal.add_where_room-requires-clause-free
 add_where_room-requires-clause-free g c = (entry_read c.args.self.now.jobs.items c.args.t.0 c.index.result.now c.args.self.now.sound.job_room c.requires.terminal c.index.ensures) ∙ missing c.index.result.now (sym c.is_some.ensures ∙ c.if-is_some.false)
 
-pub unreachable-requires-in-Err-ForksFull : goal.unreachable-requires-in-Err-ForksFull
-unreachable-requires-in-Err-ForksFull g c =
+pub unreachable-requires : goal.unreachable-requires
+unreachable-requires g c =
     let m = c.args.self.now in
     let free : job_at m.jobs.items c.args.t.0 ≡ None = (entry_read m.jobs.items c.args.t.0 c.index.result.now m.sound.job_room c.requires.terminal c.index.ensures) ∙ missing c.index.result.now (sym c.is_some.ensures ∙ c.if-is_some.false) in
     let none = none_first g.P.Pages.means m.pages m.tree m.jobs.items m.sound c.args.t free c.requires.terminal c.are_trees.ensures in
