@@ -42,9 +42,9 @@ use Rattle.event_deeds.specs.declared.deed.Deed.{Deed}
 use Rattle.event_deeds.specs.declared.deed.Deed.TheVariants.{Begin, End, Kill, Outer, Typed}
 use Rattle.event_deeds.specs.declared.deed.Purpose.{Purpose}
 use Rattle.event_deeds.specs.declared.deed.Purpose.TheVariants.{Logout, Run}
-use Rattle.event_deeds.specs.Deeds.{DeedEffect, begun, command_begun, deed, deeds, for_job, goes_on, killed_fork, line_begun, most_deeds, one_killed, over, purpose_done, typed_by}
+use Rattle.event_deeds.specs.Deeds.{DeedEffect, all_done, begun, command_begun, deed, deeds, for_job, goes_on, killed_fork, line_begun, most_deeds, one_killed, over, purpose_done, typed_by}
 use Rattle.event_deeds.specs.Leaves.{last_below}
-use Rattle.deed_laws.proofs.Leaves.{last_is_leaf, none_below}
+use Rattle.event_deeds.proofs.Leaves.{last_is_leaf, none_below}
 
 nil_behind : {A : Type 0} (xs : List A) → xs ++ [] ≡ xs
 nil_behind [] = refl
@@ -91,6 +91,9 @@ module _ (t : Tty) (j : PlainJob) (purpose : Purpose) where
       follows : Option Fork → DeedEffect
       follows o = option_map_or (λ (k : Fork). goes_on (killed_fork s k.name) (Kill t purpose)) o (goes_on s (End t purpose))
 
+      ended : Option Fork → DeedEffect
+      ended o = option_map_or (λ (k : Fork). goes_on s (Kill t purpose)) o (record { state = purpose_done s t j purpose; items = []; next = None })
+
       kill : (o : Option Fork) → last_below s.forks j.top ≡ o → deed s (Kill t purpose) ≡ follows o
       kill o is = for_job_is s t j (λ (i : PlainJob). one_killed s t purpose i.top) at ∙ ap follows is
 
@@ -98,7 +101,7 @@ module _ (t : Tty) (j : PlainJob) (purpose : Purpose) where
       by None is =
           let whole : without_inferiors (forks_and_pages s) j.top ≡ forks_and_pages s = without_none (forks_and_pages s) j.top (none_below (tree_of s) tree j.top is) in
           deeds_are (suc n) s (Kill t purpose) (goes_on s (End t purpose)) (kill None is)
-          ∙ deeds_are n s (End t purpose) (record { state = purpose_done s t j purpose; items = []; next = None }) (for_job_is s t j (λ (i : PlainJob). record { state = purpose_done s t i purpose; items = []; next = None }) at)
+          ∙ deeds_are n s (End t purpose) (record { state = purpose_done s t j purpose; items = []; next = None }) (for_job_is s t j (λ (i : PlainJob). all_done s t i purpose) at ∙ ap ended is)
           ∙ ap (λ v. record { state = purpose_done (with_forks_and_pages s v) t j purpose; items = [] }) (sym whole)
       by (Some k) is = after n refl
         where
@@ -147,6 +150,7 @@ module _ (s : PlainState) (t : Tty) (j : PlainJob) (at : map.get s.jobs t.0 ≡ 
       by None = over_is 32 (told s t (codes "?NO PROGRAM"))
       by (Some page) =
           next_is 32 s (Kill t (Run name (start_address s name))) ∙ kills t j (Run name (start_address s name)) 30 s at tree (tally_most (below_in s.forks j.top) 1 MOST_FORKS)
+          ∙ ap (λ b. record { state = cond b (running s t j name (start_address s name)) (alone_in s j.top); items = [] }) there
 
   -- and of a job's end
   logs_out : together 33 (goes_on s (Kill t Logout)) ≡ record { state = logged_out s t j; items = [] }

@@ -1,2 +1,1 @@
-mod Leaves
 pub mod Characters

@@ -91,10 +91,14 @@ running_alone s t j name address =
 abbrev pub ended_alone : PlainState → Tty → PlainJob → PlainState
 ended_alone s t j = record (killed_fork s j.top) { jobs = map.remove s.jobs t.0 }
 
--- what the inferiors were killed for is done
+-- what the inferiors were killed for is done; once the program's file is gone, nothing
 abbrev pub purpose_done : PlainState → Tty → PlainJob → Purpose → PlainState
-purpose_done s t j (Run name address) = running_alone s t j name address
+purpose_done s t j (Run name address) = if map.contains_key s.files name then running_alone s t j name address else s
 purpose_done s t j Logout = ended_alone s t j
+
+-- while a top fork has inferiors, those are killed first
+abbrev pub all_done : PlainState → Tty → PlainJob → Purpose → DeedEffect
+all_done s t j purpose = option_map_or (λ (k : Fork). goes_on s (Kill t purpose)) (last_below s.forks j.top) (record { state = purpose_done s t j purpose; items = []; next = None })
 
 -- ---- all
 
@@ -108,7 +112,7 @@ deed s (Outer e) = over (outer s e)
 deed s (Typed t c) = for_job s t (λ j. typed_by j.mode s t j (read_as c))
 deed s (Begin t name) = for_job s t (λ j. begun s t name)
 deed s (Kill t purpose) = for_job s t (λ j. one_killed s t purpose j.top)
-deed s (End t purpose) = for_job s t (λ j. record { state = purpose_done s t j purpose; items = []; next = None })
+deed s (End t purpose) = for_job s t (λ j. all_done s t j purpose)
 
 -- so many deeds at most, each behind the one before it
 unfoldable pub deeds : ℕ → PlainState → Deed → Effect
@@ -138,6 +142,14 @@ FitsDeed (Typed t c) = IsTerminal t × (c < 128)
 FitsDeed (Begin t name) = IsTerminal t × IsFileName name
 FitsDeed (Kill t purpose) = IsTerminal t × FitsPurpose purpose
 FitsDeed (End t purpose) = IsTerminal t × FitsPurpose purpose
+
+-- a deed that may come behind another: a part of a character, within its limits
+abbrev pub IsPart : Deed → Type 0
+IsPart (Outer e) = ⊥
+IsPart d = Unit {0}
+
+abbrev pub IsNext : Deed → Type 0
+IsNext d = FitsDeed d × IsPart d
 
 -- how many entries of a run a deed is: a character is part of one
 abbrev pub entries_of : Deed → ℕ

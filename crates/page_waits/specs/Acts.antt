@@ -10,8 +10,8 @@ use Rattle.plain_model.specs.Run.{AreLegal, items_of, state_after}
 use Rattle.event_deeds.specs.declared.deed.Deed.{Deed}
 use Rattle.event_deeds.specs.Deeds.{Task, deed_of, entries_of, unit_of}
 use Rattle.step_shown.specs.declared.progress.Progress.{Progress}
-use Rattle.page_waits.specs.declared.answer.Answer.{Answer}
-use Rattle.page_waits.specs.declared.answer.Showing.TheVariants as showing
+use Rattle.event_deeds.specs.declared.answer.Answer.{Answer}
+use Rattle.event_deeds.specs.declared.answer.Showing.TheVariants as showing
 use Rattle.page_waits.specs.declared.turn.Turn.{Turn}
 use Rattle.page_waits.specs.declared.turn.Turn.TheVariants as turn
 use Rattle.page_waits.specs.Left.{left}

@@ -15,13 +15,12 @@ use Rattle.plain_model.specs.State.{PlainState}
 use Rattle.plain_model.specs.Trees.{PlainTree}
 use Rattle.plain_model.specs.Run.{AreLegal, items_of, state_after}
 use Rattle.event_deeds.specs.declared.deed.Deed.{Deed}
-use Rattle.event_deeds.specs.declared.deed.Deed.TheVariants.{Outer}
-use Rattle.event_deeds.specs.Deeds.{FitsDeed, Task, deed, deed_of, entries_of, unit_of}
+use Rattle.event_deeds.specs.Deeds.{IsNext, Task, deed, deed_of, entries_of, unit_of}
 use Rattle.page_waits.specs.Seats.{UNHELD_FRAMES, has}
 use Rattle.step_shown.specs.declared.progress.Progress.{Progress}
-use Rattle.page_waits.specs.declared.answer.Answer.{Answer}
-use Rattle.page_waits.specs.declared.answer.Showing.{Showing}
-use Rattle.page_waits.specs.declared.answer.Showing.TheVariants as showing
+use Rattle.event_deeds.specs.declared.answer.Answer.{Answer}
+use Rattle.event_deeds.specs.declared.answer.Showing.{Showing}
+use Rattle.event_deeds.specs.declared.answer.Showing.TheVariants as showing
 
 -- as many frames as one task may want for the pages that it makes: a unit, or a deed, for which some may be held
 abbrev pub most_framed : Task → ℕ
@@ -59,14 +58,6 @@ pub record SystemMeaning (S : Type 0) : Type 1 where
   pub items : PlainState → Showing → List Item
   -- what is shown can be given: a page that is shown is in a frame
   pub gives : S → Showing → Type 0
-
--- a deed that may come behind another: a part of a character, within its limits
-abbrev pub IsPart : Deed → Type 0
-IsPart (Outer e) = ⊥
-IsPart d = Unit {0}
-
-abbrev pub IsNext : Deed → Type 0
-IsNext d = FitsDeed d × IsPart d
 
 -- so many units of a fork
 abbrev pub row_of : ForkName → ℕ → List Step

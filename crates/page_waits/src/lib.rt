@@ -3,7 +3,6 @@
 //! Stands on `fork_lists` for whose turn is next and who waits, on `page_contracts` for transfers, and on `event_deeds` for the deeds of an event.
 #![tactic(auto)]
 
-mod answer;
 mod completing;
 mod head;
 mod holders;
@@ -13,7 +12,6 @@ mod system;
 mod turn;
 mod waking;
 
-pub use answer::{Answer, Showing};
 pub use head::Head;
 pub use laws::{waits_are_awaited, who_waits_is_ready_again};
 pub use machine::Machine;

@@ -23,8 +23,7 @@ ghost use Rattle.turn_forms.specs.Turns.{moved};
 ghost use Rattle.page_waits.specs.Seats.{has};
 ghost use Rattle.page_waits.specs.Systems.{DidDeed, DidUnits, IsHoused, Needs, StaysOver, StaysState, StaysTold, SystemMeaning, most_wanted};
 
-use crate::answer::{Answer, Showing};
-use event_deeds::Deed;
+use event_deeds::{Answer, Deed, Showing};
 use fork_lists::ForkLists;
 use fork_tree::Tree;
 use machine_names::{ForkName, Tty};

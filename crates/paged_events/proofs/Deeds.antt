@@ -7,7 +7,7 @@ use Rattle.page_contracts.specs.DrumWords.{DrumWords}
 use Rattle.page_waits.specs.Acts.{DidOver, Spent}
 use Rattle.page_waits.specs.Systems.{SystemMeaning}
 use Rattle.page_waits.specs.Waits.{ListsMeaning}
-use Rattle.page_waits.specs.declared.answer.Answer.{Answer}
+use Rattle.event_deeds.specs.declared.answer.Answer.{Answer}
 use Rattle.plain_model.specs.Events.{outer}
 use Rattle.plain_model.specs.Run.{apply}
 use Rattle.plain_model.specs.State.{PlainState}

@@ -6,7 +6,7 @@ use Rattle.page_contracts.specs.DrumWords.{DrumWords}
 use Rattle.page_waits.specs.Acts.{IdledOver, RanOver}
 use Rattle.page_waits.specs.Systems.{SystemMeaning, row_of}
 use Rattle.page_waits.specs.Waits.{ListsMeaning}
-use Rattle.page_waits.specs.declared.answer.Showing.TheVariants as showing
+use Rattle.event_deeds.specs.declared.answer.Showing.TheVariants as showing
 use Rattle.plain_model.specs.Run.{AreLegal, apply, items_of, state_after}
 use Rattle.plain_model.specs.State.{PlainState}
 use Rattle.plain_model.specs.Unit.{Effect}

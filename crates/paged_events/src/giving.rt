@@ -4,14 +4,15 @@ ghost use Rattle.machine_names.specs.Bounds.{IsForkName};
 ghost use Rattle.outside.specs.Faults.{Rose};
 ghost use Rattle.page_contracts.specs.DrumWords.{DrumWords};
 ghost use Rattle.page_waits.specs.Systems.{row_of};
-ghost use Rattle.page_waits.specs.declared.answer.Showing.{Showing as AShowing};
+ghost use Rattle.event_deeds.specs.declared.answer.Showing.{Showing as AShowing};
 ghost use Rattle.script_texts.specs.Follows.{IsTurn};
 ghost use Rattle.script_texts.specs.Limits.{FitsCause, FitsStep};
 ghost use Rattle.script_texts.specs.Taker.{GoesOn, IsCut, StaysOnward};
 ghost use Rattle.script_texts.specs.declared.event.Item.{Item as AnItem};
 
 use outside::Failed;
-use page_waits::{Done, Machine as Waits, Showing, System};
+use event_deeds::Showing;
+use page_waits::{Done, Machine as Waits, System};
 use script_texts::{Item, Refusal, Step, Taker};
 
 // Gives so many equal steps that show nothing: more than one are turns of a run.

@@ -6,7 +6,7 @@ ghost use Rattle.plain_model.specs.TypeEvents.{typed_all, typed_at};
 ghost use Rattle.script_texts.specs.Limits.{FitsEvent};
 ghost use Rattle.script_texts.specs.declared.event.Event.{Event as AnEvent};
 ghost use Rattle.page_waits.specs.Machines.{IsBare, KeepsMarks, auto, limit};
-ghost use Rattle.page_waits.specs.Systems.{IsNext};
+ghost use Rattle.event_deeds.specs.Deeds.{IsNext};
 ghost use Rattle.paged_events.specs.Given.{Acted, IsWithin, StaysWithin};
 ghost use Rattle.paged_events.specs.Outside.{UsesOutside};
 ghost use Rattle.paged_events.specs.Typing.{CutPart, DidPart, Typed};

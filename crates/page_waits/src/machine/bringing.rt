@@ -9,19 +9,19 @@ ghost use Rattle.turn_forms.specs.Turns.{moved};
 ghost use Rattle.page_waits.specs.Acts.{DidOver, DidThere, Quiet, Spent, Still, told_work};
 ghost use Rattle.page_waits.specs.Holders.{AreReleased};
 ghost use Rattle.page_waits.specs.Machines.{IsBare, KeepsMarks, auto, limit};
-ghost use Rattle.page_waits.specs.Systems.{IsNext, StaysTold};
+ghost use Rattle.page_waits.specs.Systems.{StaysTold};
+ghost use Rattle.event_deeds.specs.Deeds.{IsNext};
 ghost use Rattle.page_waits.specs.Told.{AllTold, MovesSilently, TookDeed};
 ghost use Rattle.page_waits.specs.Waits.{AreAwaited, the_lists, waits_with, woken};
-ghost use Rattle.page_waits.specs.declared.answer.Answer.{Answer as AnAnswer};
+ghost use Rattle.event_deeds.specs.declared.answer.Answer.{Answer as AnAnswer};
 
 use crate::System;
-use crate::answer::Answer;
 use crate::completing::complete;
 use crate::holders::{held_members, release_left};
 use crate::machine::Machine;
 use crate::machine::looking::MOST_TRANSFERS;
 use crate::waking::tell;
-use event_deeds::Deed;
+use event_deeds::{Answer, Deed};
 use outside::{Drum, Failed};
 use page_contracts::{CONSOLE_HOLDER, Completed, Need};
 

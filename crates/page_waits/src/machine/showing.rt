@@ -8,7 +8,7 @@ ghost use Rattle.page_contracts.specs.DrumWords.{DrumWords};
 ghost use Rattle.script_texts.specs.Taker.{GoesOn, IsCut, StaysOnward};
 
 use crate::System;
-use crate::answer::Showing;
+use event_deeds::Showing;
 use crate::machine::Machine;
 use machine_names::Tty;
 use outside::Failed;

@@ -2,7 +2,7 @@ use Rattle.std.proofs.Common.{◌≡◌, ◌+◌, ◌^◌, ℕ, List, [], refl, 
 use Rattle.event_deeds.specs.Deeds.{IsTold, entries_of}
 use Rattle.event_deeds.specs.declared.deed.Deed.{Deed}
 use Rattle.event_deeds.specs.declared.deed.Deed.TheVariants.{Begin, End, Kill, Outer, Typed}
-use Rattle.page_waits.specs.Systems.{IsPart}
+use Rattle.event_deeds.specs.Deeds.{IsPart}
 use Rattle.script_texts.specs.declared.event.Item.{Item}
 use Rattle.script_texts.specs.Taker.{GoesOn, IsCut}
 use Rattle.paged_events.proofs.Outside.{outside_drum, outside_taker, outside_then, uses_drum, uses_taker, uses_well}

@@ -8,7 +8,7 @@ use Rattle.page_contracts.specs.declared.answers.Need.TheVariants.{Frame}
 use Rattle.plain_model.specs.Trees.{PlainTree}
 use Rattle.fork_lists.specs.declared.lists.ForkLists.{ForkLists}
 use Rattle.fork_lists.specs.Ties.{AreTied}
-use Rattle.page_waits.specs.declared.answer.Answer.{Answer}
+use Rattle.event_deeds.specs.declared.answer.Answer.{Answer}
 use Rattle.page_waits.specs.Acts.{Still, told_work}
 use Rattle.page_waits.specs.Waits.{AreAwaited, AreStanding, waits_with, the_lists}
 use Rattle.page_waits.proofs.Awaiting.{awaited_fewer, awaited_lost, awaited_same, standing_asked, awaited_asked}

@@ -17,7 +17,7 @@ use Rattle.page_waits.proofs.Holding.{all_lost, released_of}
 use Rattle.page_waits.proofs.Silence.{silent_nil, silent_wait}
 use Rattle.page_waits.proofs.Needing.{few_free}
 use Rattle.page_waits.proofs.Quieting.{still_begun}
-use Rattle.page_waits.specs.declared.answer.Showing.TheVariants as showing
+use Rattle.event_deeds.specs.declared.answer.Showing.TheVariants as showing
 use Rattle.page_waits.proofs.machine.Machine.plan.Goals as goal
 
 pub finish-ended-requires-clause-awaited : goal.finish-ended-requires-clause-awaited

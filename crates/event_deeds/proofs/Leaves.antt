@@ -14,7 +14,7 @@ use Rattle.plain_model.specs.declared.fork.Fork.{Fork}
 use Rattle.plain_model.specs.Forks.{ForkMap, fork_in}
 use Rattle.plain_model.specs.Inferiors.{is_inferior}
 use Rattle.plain_model.specs.Trees.{PlainTree}
-use Rattle.fork_tree.specs.Inferiors.{HasNoInferior, IsLeafBelow}
+use Rattle.fork_tree.specs.Inferiors.{HasNoInferior, IsLastBelow, IsLeafBelow}
 use Rattle.fork_tree.specs.Trees.{IsTree}
 use Rattle.fork_tree.proofs.Leaves.{inferior_lives, inferior_over, leafless}
 use Rattle.fork_tree.proofs.Slots.{in_found, in_tells, names_same}
@@ -123,3 +123,63 @@ module _ (tree : PlainTree) (is : IsTree tree) (who : ForkName) where
   unfolding last_below
   none_below e = leafless tree is who (λ g tty leaf.
       none_found MOST_FORKS e g.slot g (is.slotted.first g leaf.lives) (is.slotted.last g leaf.lives) (in_found tree.forks is.slotted who.tty g.slot g (leaf.lives, tty, refl)) leaf)
+
+  -- the one that is found is in the highest slot of all such
+  highest : (n : ℕ) (f : Fork) → last_up_to tree.forks who n ≡ Some f → (slot : ℕ) (g : Fork) → slot ≤ n → fork_in tree.forks who.tty slot ≡ Some g → IsLeafBelow tree.forks who g → slot ≤ f.slot
+  highest zero f e slot g few at leaf = absurd (cc e)
+  highest (suc n) f e slot g few at leaf = by (fork_in tree.forks who.tty (suc n)) refl e (λ h low. highest n f h slot g low at leaf)
+    where
+      by : (o : Option Fork) → fork_in tree.forks who.tty (suc n) ≡ o → option_or (option_and_then (leaf_below tree.forks who) o) (last_up_to tree.forks who n) ≡ Some f
+          → (last_up_to tree.forks who n ≡ Some f → slot ≤ n → slot ≤ f.slot) → slot ≤ f.slot
+      by None there h rest = elim (below_or_last slot n few) [
+        | inl low ↦ rest h low
+        | inr same ↦ absurd (cc (sym there ∙ ap (fork_in tree.forks who.tty) (sym same) ∙ at))
+      ]
+      by (Some k) there h rest = whether (leaf_below tree.forks who k) refl h
+        where
+          whether : (l : Option Fork) → leaf_below tree.forks who k ≡ l → option_or l (last_up_to tree.forks who n) ≡ Some f → slot ≤ f.slot
+          whether (Some l) passes i =
+              let own = leaf_is k (suc n) l there passes in
+              let same : l ≡ f = cc i in
+              let high : k.slot ≡ suc n = (in_tells tree.forks is.slotted who.tty (suc n) k there).2 in
+              let up : k.slot ≡ f.slot = ap (λ (x : Fork). x.slot) (own.0 ∙ same) in
+              omega (arith, few, high, up)
+          whether None passes i = elim (below_or_last slot n few) [
+            | inl low ↦ rest i low
+            | inr same ↦
+                let one : Some k ≡ Some g = sym there ∙ ap (fork_in tree.forks who.tty) (sym same) ∙ at in
+                let fork : k ≡ g = cc one in
+                absurd (cc (sym passes ∙ ap (leaf_below tree.forks who) fork ∙ leaf_passes g leaf))
+          ]
+
+  -- an inferior is of its superior's job
+  leaf_job : (f : Fork) → IsLeafBelow tree.forks who f → f.name.tty.0 ≡ who.tty.0
+  leaf_job f leaf = (inferior_over tree is who f leaf.lives leaf.below).2
+
+  leaf_there : (f : Fork) → IsLeafBelow tree.forks who f → fork_in tree.forks who.tty f.slot ≡ Some f
+  leaf_there f leaf = in_found tree.forks is.slotted who.tty f.slot f (leaf.lives, leaf_job f leaf, refl)
+
+  -- a search that tells the same finds the same
+  pub last_is : (name : ForkName) (last : IsLastBelow tree.forks who name) → last_below tree.forks who ≡ Some last.fork
+  unfolding last_below
+  last_is name last = by (last_up_to tree.forks who MOST_FORKS) refl
+    where
+      low : last.fork.slot ≤ MOST_FORKS
+      low = is.slotted.last last.fork last.leaf.lives
+
+      by : (o : Option Fork) → last_up_to tree.forks who MOST_FORKS ≡ o → o ≡ Some last.fork
+      by None e = absurd (none_found MOST_FORKS e last.fork.slot last.fork (is.slotted.first last.fork last.leaf.lives) low (leaf_there last.fork last.leaf) last.leaf)
+      by (Some f) e =
+          let leaf = found MOST_FORKS f e in
+          let up = highest MOST_FORKS f e last.fork.slot last.fork low (leaf_there last.fork last.leaf) last.leaf in
+          let down = last.last f leaf in
+          let slot : f.slot ≡ last.fork.slot = omega (arith, up, down) in
+          ap (λ (x : Fork). Some x) (is.slotted.once who.tty last.fork.slot f last.fork (leaf.lives, leaf_job f leaf, slot) (last.leaf.lives, leaf_job last.fork last.leaf, refl))
+
+  -- and none where there is none
+  pub last_none : HasNoInferior tree.forks who → last_below tree.forks who ≡ None
+  last_none none = by (last_below tree.forks who) refl
+    where
+      by : (o : Option Fork) → last_below tree.forks who ≡ o → o ≡ None
+      by None e = refl
+      by (Some f) e = let leaf = last_is_leaf f e in absurd (let no : false ≡ true = sym (none f.name) ∙ leaf.below in cc no)

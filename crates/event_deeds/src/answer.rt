@@ -1,5 +1,5 @@
 // What units and a deed show, and which deed comes next.
-use event_deeds::Deed;
+use crate::deed::Deed;
 use machine_names::Tty;
 use step_shown::{Echo, Reply, Told};
 
