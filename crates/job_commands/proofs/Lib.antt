@@ -1,5 +1,6 @@
 mod Begun
 mod Changing
 mod NextLines
+mod Parts
 mod Programs
 mod Tops

@@ -1,3 +1,4 @@
+pub mod Needing
 pub mod Programs
 pub mod Leaving
 pub mod Going

@@ -4,10 +4,12 @@ use Rattle.std.specs.Ordering.{nat_cmp}
 use Rattle.word36.specs.Words.{right}
 use Rattle.machine_names.specs.Orders.{file_page}
 use Rattle.machine_names.specs.declared.names.ForkName.{ForkName}
+use Rattle.machine_names.specs.declared.names.TheConstants.{SPACE_PAGES}
 use Rattle.plain_pages.specs.PlainPages.{NumberedPages}
 use Rattle.plain_pages.specs.References.{Spot, in_file, page_at, word_at}
 use Rattle.plain_model.specs.declared.command.TheConstants.{START_WORD}
-use Rattle.plain_model.specs.Commands.{with_program_run}
+use Rattle.plain_model.specs.Commands.{begun_at, with_program, with_program_run}
+use Rattle.plain_model.specs.Trees.{with_changed_of}
 use Rattle.plain_model.specs.ForkCalls.{ForkParts}
 
 -- the first page of a file
@@ -23,3 +25,7 @@ StartsAt p file None = page_at p (first_page file) ≡ None
 abbrev pub IsRun : {E : Type 0} → ForkName → ℕ → ForkParts nat_cmp → ForkParts nat_cmp → Result ℕ E → Type 0
 IsRun top file v w (Ok word) = StartsAt v.pages file (Some word) × (w ≡ with_program_run v top file (right word))
 IsRun top file v w (Err none) = StartsAt v.pages file None × (w ≡ v)
+
+-- a fork begins the program in a file at an address, and its map is the program's; its inferiors stay
+abbrev pub with_program_begun : ForkParts nat_cmp → ForkName → ℕ → ℕ → ForkParts nat_cmp
+with_program_begun v top file address = record { tree = with_changed_of v.tree top (begun_at address); pages = with_program SPACE_PAGES v.pages top file }

@@ -12,6 +12,7 @@ mod running;
 
 pub use deleting::{Busy, delete};
 pub use going::go_on;
-pub use leaving::log_out;
+pub use leaving::{kill_next, kill_top, log_out};
 pub use listing::{file_part, next_listed};
-pub use running::{NoProgram, run};
+pub use program::start_of;
+pub use running::{NoProgram, begin_program, run};

@@ -1,6 +1,7 @@
 // RUN: the top fork begins a program.
-ghost use Rattle.std.specs.Prelude.{◌≡◌, ◌<◌, IsSome, true, None};
+ghost use Rattle.std.specs.Prelude.{◌≡◌, ◌<◌, IfErr, IsOk, IsSome, None, OnErr, OnOk, true};
 ghost use Rattle.std.specs.FinMap as map;
+ghost use Rattle.machine_names.specs.Bounds.{IsAddress};
 ghost use Rattle.machine_names.specs.declared.names.TheConstants.{MOST_FILES};
 ghost use Rattle.page_contracts.specs.DrumWords.{DrumWords};
 ghost use Rattle.plain_model.specs.Commands.{begun_at};
@@ -8,15 +9,16 @@ ghost use Rattle.plain_model.specs.Trees.{with_changed_of};
 ghost use Rattle.fork_tree.specs.Trees.{IsTree};
 ghost use Rattle.job_forks.specs.Holding.{Holds, parts};
 ghost use Rattle.job_commands.specs.Leaving.{RunLeaves};
-ghost use Rattle.job_commands.specs.Programs.{IsRun};
+ghost use Rattle.job_commands.specs.Needing.{NeedsMap};
+ghost use Rattle.job_commands.specs.Programs.{IsRun, with_program_begun};
 ghost use Rattle.script_texts.specs.declared.status.ForkStatus.TheVariants.{Run as Running};
 ghost use Rattle.plain_model.specs.Forks.{first_regs, psi_at_rest};
 
-use crate::leaving::kill_inferiors;
+use crate::leaving::{ask_map, kill_inferiors};
 use crate::program::{map_program, start_of};
 use fork_tree::Tree;
 use machine_names::{ACCUMULATORS, FileNo, ForkName};
-use page_contracts::Pages;
+use page_contracts::{Need, Pages};
 use plain_model::{Body, Psi};
 use plain_units::Regs;
 use script_texts::ForkStatus;
@@ -69,8 +71,11 @@ pub fn run<P: Pages>(
         → P.means.fits pages.new d × IsRun top file.0 (parts tree.old (P.means.plain pages.old d)) (parts tree.new (P.means.plain pages.new d)) result }
     ensures leaves { RunLeaves P.means pages.old pages.new tree.old tree.new top }
 {
-    let Some(word) = start_of(pages, file) else {
-        return Err(NoProgram);
+    let word = match start_of(pages, file) {
+        Ok(Some(word)) => word,
+        Ok(None) => return Err(NoProgram),
+        // Pages in memory alone need nothing first.
+        Err(_) => unreachable!(),
     };
     kill_inferiors(top, tree, pages);
     map_program(pages, top, file);
@@ -78,4 +83,31 @@ pub fn run<P: Pages>(
     begin_at(tree, top, word.right());
     tree.are_trees();
     Ok(word)
+}
+
+/// RUN, at last: a fork's map becomes that of the program in a file, and the fork begins at an address. Err: its map is in no frame; nothing changes then.
+pub fn begin_program<P: Pages>(
+    top: ForkName,
+    file: FileNo,
+    address: u32,
+    tree: &mut Tree,
+    pages: &mut P,
+) -> Result<(), Need>
+    requires lives { IsSome (map.get tree.old.forks top) }
+    requires file { file.0 < MOST_FILES }
+    requires address { IsAddress address }
+    requires holds { Holds P.means pages.old tree.old.forks }
+    ensures told { (d : DrumWords) → P.means.fits pages.old d
+        → OnOk result (P.means.fits pages.new d × (parts tree.new (P.means.plain pages.new d) ≡ with_program_begun (parts tree.old (P.means.plain pages.old d)) top file.0 address)) }
+    ensures leaves { OnOk result (RunLeaves P.means pages.old pages.new tree.old tree.new top) }
+    ensures needs { IfErr result (NeedsMap P.means pages.old top) }
+    ensures stays { OnErr result ((tree.new ≡ tree.old) × (pages.new ≡ pages.old)) }
+    ensures core { P.means.flat ≡ true → IsOk result }
+{
+    ask_map(top, pages)?;
+    map_program(pages, top, file);
+    tree.are_trees();
+    begin_at(tree, top, address);
+    tree.are_trees();
+    Ok(())
 }

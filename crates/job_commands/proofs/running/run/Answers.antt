@@ -13,8 +13,8 @@ use Rattle.job_forks.proofs.Tops.{same_tops, tops_on}
 use Rattle.job_commands.proofs.Begun.{begun_mild}
 use Rattle.job_commands.proofs.running.run.Goals as goal
 
-pub returns-in_default-clause-leaves : goal.returns-in_default-clause-leaves
-returns-in_default-clause-leaves g c =
+pub returns-in-Ok-None-clause-leaves : goal.returns-in-Ok-None-clause-leaves
+returns-in-Ok-None-clause-leaves g c =
     let means = g.P.Pages.means in
     record {
       holds = c.requires.holds;
