@@ -29,7 +29,7 @@ module _ {K : Type 0} {file_cmp : K → K → Ordering} where
 
 module _ {K L : Type 0} {file_cmp : K → K → Ordering} (other_cmp : L → L → Ordering) (files : map.FinMap (file_page_cmp other_cmp) PageName) where
   module _ (file : K) (other : L) where
-    program_same : (n : ℕ) (p : PlainPages file_cmp) (top : ForkName) → NameAlike other_cmp p files → ((page : ℕ) → map.get files (record { file = other; page = page }) ≡ map.get p.files (record { file = file; page = page }))
+    pub program_same : (n : ℕ) (p : PlainPages file_cmp) (top : ForkName) → NameAlike other_cmp p files → ((page : ℕ) → map.get files (record { file = other; page = page }) ≡ map.get p.files (record { file = file; page = page }))
         → with_program n (refiled other_cmp p files) top other ≡ refiled other_cmp (with_program n p top file) files
     unfolding with_program
     program_same zero p top alike under = refl

@@ -137,7 +137,7 @@ module _ {P : Type 0} {b : _} (m m' : System P b) (t : Tty) (name : List ℕ) (f
 
     pub has_deleted : Has m m' (λ s. delete_file s t name) (told_items t Prompt)
     has_deleted =
-        has_so m m' (λ s. delete_file s t name) (told_items t Prompt) panel (subst (λ (x : PlainTree). ComeFrom m.tree.forks x.forks) (sym tree) (came_itself m.tree.forks)) (λ u. omega (arith, (grows u).serial)) (grows t).most
+        has_so m m' (λ s. delete_file s t name) (told_items t Prompt) panel (subst (λ (x : PlainTree). ComeFrom m.tree.forks x.forks) (sym tree) (came_itself m.tree.forks)) (λ u. omega (arith, (grows u).serial)) (grows t).most (grows t).loses
         (λ d fits. let p = b.means.plain m.pages d in record {
           pages = (told_pages d fits.pages).0;
           filed = subst (λ files. AreFiled files (b.means.plain m'.pages d).files) (sym dir) (subst (λ (q : NumberedPages). AreFiled (map.remove m.files.dir f) q.files) (sym (told_pages d fits.pages).1) (filed_left m.files.dir m.files.sound.numbers f name at p fits.filed));
@@ -154,5 +154,5 @@ module _ {P : Type 0} {b : _} (m m' : System P b) (t : Tty) (name : List ℕ) (f
 
     pub has_not_deleted : Has m m' (λ s. delete_file s t name) (told_items t (Refused Busy))
     has_not_deleted =
-        has_so m m' (λ s. delete_file s t name) (told_items t (Refused Busy)) panel (subst (λ (x : PlainTree). ComeFrom m.tree.forks x.forks) (sym tree) (came_itself m.tree.forks)) (λ u. omega (arith, (grows u).serial)) (grows t).most
+        has_so m m' (λ s. delete_file s t name) (told_items t (Refused Busy)) panel (subst (λ (x : PlainTree). ComeFrom m.tree.forks x.forks) (sym tree) (came_itself m.tree.forks)) (λ u. omega (arith, (grows u).serial)) (grows t).most (grows t).loses
         (λ d fits. fits_left m m' files d (told_pages d fits.pages).0 (ap (λ (q : NumberedPages). q.files) (told_pages d fits.pages).1) fits) refuses

@@ -1,5 +1,5 @@
 -- Effects that a system has had, and what is always true of its tables then.
-use Rattle.std.proofs.Common.{◌≡◌, ◌≢◌, ℕ, ◌≤◌, ◌<◌, List, length, set, Option, None, Some, sym, ◌∙◌, ap, arith, inl, inr, length-set, get_or-set_same, get_or-set_other}
+use Rattle.std.proofs.Common.{◌≡◌, ◌≢◌, ℕ, ◌≤◌, ◌<◌, List, length, set, Option, None, Some, sym, ◌∙◌, ap, subst, arith, inl, inr, length-set, get_or-set_same, get_or-set_other}
 use Rattle.std.specs.Option.{option_map}
 use Rattle.std.specs.FinMap as map
 use Rattle.std.proofs.lemmas.Bool.{cases_eq}
@@ -9,7 +9,8 @@ use Rattle.machine_names.specs.declared.names.TheConstants.{TERMINALS}
 use Rattle.machine_names.specs.declared.names.Tty.{Tty}
 use Rattle.script_texts.specs.declared.event.Item.{Item}
 use Rattle.page_contracts.specs.DrumWords.{DrumWords}
-use Rattle.page_contracts.specs.Pages.{PagesMeaning}
+use Rattle.page_contracts.specs.Pages.{MayLose, PagesMeaning}
+use Rattle.ka10_spots.proofs.Stored.{lost_none}
 use Rattle.std.specs.Ordering.{nat_cmp}
 use Rattle.plain_files.specs.OpenFiles.{OpenFile, OpenFiles, open_at}
 use Rattle.plain_model.specs.declared.fork.Fork.{Fork}
@@ -41,9 +42,9 @@ use Rattle.monitor_core.proofs.Systems.{fits_still, state_left}
 
 module _ {P : Type 0} {b : _} (m m' : System P b) (effect : PlainState → Effect) (items : PlainState → List Item) where
   -- an effect is had that leaves this state, in which no unit ran and no page was made
-  pub has_so : m'.panel ≡ m.panel → ComeFrom m.tree.forks m'.tree.forks → ((u : Tty) → b.means.serial m'.pages u ≤ b.means.serial m.pages u) → b.means.most m'.pages ≡ b.means.most m.pages
+  pub has_so : m'.panel ≡ m.panel → ComeFrom m.tree.forks m'.tree.forks → ((u : Tty) → b.means.serial m'.pages u ≤ b.means.serial m.pages u) → b.means.most m'.pages ≡ b.means.most m.pages → MayLose b.means m.pages m'.pages
       → ((d : DrumWords) → FitsPages m d → FitsPages m' d) → ((d : DrumWords) → FitsPages m d → ◌≡◌ {A = Effect} (effect (state_of m d)) (record { state = state_of m' d; items = items (state_of m' d) })) → Has m m' effect items
-  has_so panel come serials most fits is = record {
+  has_so panel come serials most loses fits is = record {
     each = λ d f. (fits d f, ap (λ e. e.state) (sym (is d f)), ap (λ e. e.items) (sym (is d f)));
     within = λ entries w. record {
       ticks = omega (arith, ap (λ (x : Panel). x.clock) panel, w.ticks);
@@ -51,12 +52,13 @@ module _ {P : Type 0} {b : _} (m m' : System P b) (effect : PlainState → Effec
       serials = λ u. omega (arith, serials u, w.serials u);
     };
     most = most;
+    loses = loses;
   }
 
   -- the pages and the files stay
   pub has_left : m'.files ≡ m.files → m'.pages ≡ m.pages → m'.panel ≡ m.panel → ComeFrom m.tree.forks m'.tree.forks
       → ((d : DrumWords) → FitsPages m d → ◌≡◌ {A = Effect} (effect (state_of m d)) (record { state = state_of m' d; items = items (state_of m' d) })) → Has m m' effect items
-  has_left files same panel come is = has_so panel come (λ u. omega (arith, ap (λ p. b.means.serial p u) same)) (ap b.means.most same) (fits_still m m' files same) is
+  has_left files same panel come is = has_so panel come (λ u. omega (arith, ap (λ p. b.means.serial p u) same)) (ap b.means.most same) (subst (MayLose b.means m.pages) (sym same) (lost_none b.means m.pages)) (fits_still m m' files same) is
 
   -- the same effect
   pub has_as : (effect' : PlainState → Effect) → ((d : DrumWords) → effect' (state_of m d) ≡ effect (state_of m d)) → Has m m' effect items → Has m m' effect' items
@@ -64,6 +66,7 @@ module _ {P : Type 0} {b : _} (m m' : System P b) (effect : PlainState → Effec
     each = λ d f. let e = has.each d f in (e.0, e.1 ∙ ap (λ x. x.state) (sym (same d)), e.2 ∙ ap (λ x. x.items) (sym (same d)));
     within = has.within;
     most = has.most;
+    loses = has.loses;
   }
 
 -- an effect that was had by the same tables
@@ -81,6 +84,7 @@ has_from {b = b} m n m' t j effect items files same tree jobs typed panel has = 
     serials = λ u. omega (arith, ap (λ p. b.means.serial p u) same, w.serials u);
   });
   most = has.most ∙ ap b.means.most same;
+  loses = subst (λ p. MayLose b.means p m'.pages) same has.loses;
 }
 
 -- ---- trees

@@ -19,7 +19,7 @@ pub mod BootDid
 mod HasDone
 mod CharacterDid
 mod DeleteDid
-mod RunDid
+mod EndDid
 mod TypeDid
 mod CommandPages
 mod CommandDid

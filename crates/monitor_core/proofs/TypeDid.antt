@@ -8,17 +8,23 @@ use Rattle.machine_names.specs.declared.names.Tty.{Tty}
 use Rattle.page_contracts.specs.DrumWords.{DrumWords}
 use Rattle.plain_files.specs.OpenFiles.{open_at}
 use Rattle.plain_typing.specs.declared.typed.TheConstants.{MOST_STORED}
-use Rattle.plain_typing.specs.Characters.{read_as}
 use Rattle.plain_typing.specs.Commands.{command_of}
+use Rattle.plain_typing.specs.declared.command.Command.{Command as ACommand}
 use Rattle.plain_model.specs.declared.fork.TerminalMode.{TerminalMode}
 use Rattle.plain_model.specs.declared.fork.TerminalMode.TheVariants.{Command, Program}
 use Rattle.plain_model.specs.State.{PlainJob, PlainState}
 use Rattle.plain_model.specs.Commands.{commanded, with_job_at}
 use Rattle.plain_model.specs.Trees.{PlainTree, readers_woken, with_mark}
-use Rattle.plain_model.specs.TypeEvents.{echo, interrupted, line_ended, line_typed, rings, stopped_by, stored, typed_at, typed_one}
+use Rattle.plain_model.specs.TypeEvents.{echo, interrupted, line_typed, rings, stopped_by, stored}
 use Rattle.plain_model.specs.Unit.{Effect}
 use Rattle.file_tables.specs.Tables.{files_of, open_of}
-use Rattle.step_shown.specs.declared.echo.Echo.TheVariants.{Shows, Stops, Ends}
+use Rattle.step_shown.specs.declared.echo.Echo.TheVariants.{Shows, Stops}
+use Rattle.step_shown.specs.declared.echo.Told.TheVariants.{Nothing as Silent}
+use Rattle.event_deeds.specs.Deeds.{DeedEffect, command_begun, for_job, goes_on, line_begun, over}
+use Rattle.event_deeds.specs.declared.deed.Deed.{Deed}
+use Rattle.ka10_spots.proofs.Stored.{lost_on}
+use Rattle.monitor_core.specs.Deeds.{Does, begins_with, line_end}
+use Rattle.monitor_core.proofs.Commanded.{begun_is}
 use Rattle.step_shown.specs.declared.echo.Told.{Told}
 use Rattle.monitor_calls.specs.declared.job.Job.{Job}
 use Rattle.monitor_core.specs.declared.system.System.{System}
@@ -26,7 +32,7 @@ use Rattle.monitor_calls.specs.declared.typing.Typing.{Typing}
 use Rattle.step_shown.specs.Echoes.{echo_items, told_items}
 use Rattle.monitor_core.specs.Effects.{Has, HasJobAt, job_in, stopped_tree}
 use Rattle.monitor_calls.specs.Jobs.{jobs_of, job_at, plain_job}
-use Rattle.monitor_core.specs.Systems.{named, state_of}
+use Rattle.monitor_core.specs.Systems.{FitsPages, named, state_of}
 use Rattle.monitor_calls.specs.Typings.{typing_at}
 use Rattle.monitor_calls.proofs.Lookups.{job_found, job_missing, jobs_put, jobs_typed}
 use Rattle.monitor_core.proofs.Systems.{change_is}
@@ -103,24 +109,59 @@ module _ {P : Type 0} {b : _} (m m' : System P b) (t : Tty) (j : Job) (at : HasJ
         let job : plain_job (open_at (open_of m.files) t.0) y j ≡ record was { line = [] } = ap (λ x. plain_job (open_at (open_of m.files) t.0) x j) line in
         λ i. record { state = sym (now ∙ ap (λ x. with_job_at old t x) job) i; items = [] }
 
-  -- a line is over, and its command was done
-  pub ends_line : (mid : System P b) (told : Told) → Has m mid (λ s. record { state = with_job_at s t (record was { line = [] }); items = [] }) (λ s. []) → job_in mid t j ≡ record was { line = [] }
-      → Has mid m' (λ s. commanded s t (job_in mid t j) (command_of j.user was.line)) (told_items t told) → Has m m' (λ s. line_ended s t was) (echo_items t (Ends told))
-  ends_line mid told first left second = record {
-    each = λ d f.
+  -- a line is over, and its command was done, or begun
+  module _ (mid : System P b) (first : Has m mid (λ s. record { state = with_job_at s t (record was { line = [] }); items = [] }) (λ s. [])) (left : job_in mid t j ≡ record was { line = [] }) where
+    abbrev taken : PlainState → PlainState
+    taken s = with_job_at s t (record was { line = [] })
+
+    abbrev asked : ACommand
+    asked = command_of j.user was.line
+
+    begun_so : (next : Option Deed) → begins_with (files_of mid.files) t asked ≡ next → (d : DrumWords) → FitsPages m d
+        → command_begun (taken (state_of m d)) t (record was { line = [] }) asked ≡ option_map_or (goes_on (state_of mid d)) next (over (commanded (state_of mid d) t (job_in mid t j) asked))
+    begun_so next begins d f =
         let e = first.each d f in
-        let g = second.each d e.0 in
-        let same : commanded (state_of mid d) t (job_in mid t j) (command_of j.user was.line) ≡ commanded (with_job_at (state_of m d) t (record was { line = [] })) t (record was { line = [] }) (command_of j.user was.line) =
-        λ i. commanded (e.1 i) t (left i) (command_of j.user was.line) in
-        (g.0, g.1 ∙ ap (λ x. x.state) same, ap (λ x. echo t LINE_END ++ x) (g.2 ∙ ap (λ x. x.items) same));
-    within = λ entries w. second.within entries (first.within entries w);
-    most = second.most ∙ first.most;
-  }
+        let now : state_of mid d ≡ taken (state_of m d) = e.1 in
+        let files : files_of m.files ≡ files_of mid.files = ap (λ (s : PlainState). s.files) (sym now) in
+        begun_is (taken (state_of m d)) t (record was { line = [] }) asked
+        ∙ (λ i. option_map_or (goes_on (sym now i)) ((ap (λ x. begins_with x t asked) files ∙ begins) i) (over (commanded (sym now i) t (sym left i) asked)))
 
--- what is typed at a terminal with a job, and without one
-module _ {P : Type 0} {b : _} (m : System P b) (t : Tty) (c : ℕ) (d : DrumWords) where
-  pub types_at : (j : Job) → HasJobAt m t j → typed_at (state_of m d) t c ≡ typed_one j.mode (state_of m d) t (job_in m t j) (read_as c)
-  types_at j at = ap (λ (o : Option PlainJob). option_map_or (λ k. typed_one k.mode (state_of m d) t k (read_as c)) o (record { state = state_of m d; items = [] })) (job_found (open_of m.files) m.typed.items m.jobs.items t.0 j at)
+    line_so : (e : DeedEffect) (s : PlainState) → command_begun (taken s) t (record was { line = [] }) asked ≡ e → line_begun s t was ≡ record e { items = echo t LINE_END ++ e.items }
+    line_so e s is = ap (λ (x : DeedEffect). record x { items = echo t LINE_END ++ x.items }) is
 
-  pub types_nowhere : job_at m.jobs.items t.0 ≡ None → ◌≡◌ {A = Effect} (typed_at (state_of m d) t c) (record { state = state_of m d; items = [] })
-  types_nowhere none = ap (λ (o : Option PlainJob). option_map_or (λ k. typed_one k.mode (state_of m d) t k (read_as c)) o (record { state = state_of m d; items = [] })) (job_missing (open_of m.files) m.typed.items m.jobs.items t.0 none)
+    pub line_done : (told : Told) → begins_with (files_of mid.files) t asked ≡ None → Has mid m' (λ s. commanded s t (job_in mid t j) asked) (told_items t told) → Does m m' (λ s. line_begun s t was) (line_end t told None)
+    line_done told begins second = record {
+      has = record {
+        each = λ d f.
+            let e = first.each d f in
+            let g = second.each d e.0 in
+            let is = line_so (over (commanded (state_of mid d) t (job_in mid t j) asked)) (state_of m d) (begun_so None begins d f) in
+            (g.0, g.1 ∙ sym (ap (λ (x : DeedEffect). x.state) is), ap (λ x. echo t LINE_END ++ x) g.2 ∙ sym (ap (λ (x : DeedEffect). x.items) is));
+        within = λ entries w. second.within entries (first.within entries w);
+        most = second.most ∙ first.most;
+        loses = lost_on b.means m.pages mid.pages m'.pages first.loses second.loses;
+      };
+      next = λ d f. sym (ap (λ (x : DeedEffect). x.next) (line_so (over (commanded (state_of mid d) t (job_in mid t j) asked)) (state_of m d) (begun_so None begins d f)));
+    }
+
+    pub line_goes : (next : Deed) → begins_with (files_of mid.files) t asked ≡ Some next → Does m mid (λ s. line_begun s t was) (line_end t Silent (Some next))
+    line_goes next begins = record {
+      has = record {
+        each = λ d f.
+            let e = first.each d f in
+            let is = line_so (goes_on (state_of mid d) next) (state_of m d) (begun_so (Some next) begins d f) in
+            (e.0, sym (ap (λ (x : DeedEffect). x.state) is), sym (ap (λ (x : DeedEffect). x.items) is));
+        within = first.within;
+        most = first.most;
+        loses = first.loses;
+      };
+      next = λ d f. sym (ap (λ (x : DeedEffect). x.next) (line_so (goes_on (state_of mid d) next) (state_of m d) (begun_so (Some next) begins d f)));
+    }
+
+-- a deed of a terminal with a job, and without one
+module _ {P : Type 0} {b : _} (m : System P b) (t : Tty) (act : PlainState → PlainJob → DeedEffect) (d : DrumWords) where
+  pub acts_at : (j : Job) → HasJobAt m t j → for_job (state_of m d) t (act (state_of m d)) ≡ act (state_of m d) (job_in m t j)
+  acts_at j at = ap (λ (o : Option PlainJob). option_map_or (act (state_of m d)) o (record { state = state_of m d; items = []; next = None })) (job_found (open_of m.files) m.typed.items m.jobs.items t.0 j at)
+
+  pub acts_nowhere : job_at m.jobs.items t.0 ≡ None → for_job (state_of m d) t (act (state_of m d)) ≡ record { state = state_of m d; items = []; next = None }
+  acts_nowhere none = ap (λ (o : Option PlainJob). option_map_or (act (state_of m d)) o (record { state = state_of m d; items = []; next = None })) (job_missing (open_of m.files) m.typed.items m.jobs.items t.0 none)

@@ -10,6 +10,7 @@ use Rattle.script_texts.specs.declared.event.Event.{Event}
 use Rattle.script_texts.specs.declared.event.Event.TheVariants.{TypeIn}
 use Rattle.script_texts.specs.declared.event.Item.{Item}
 use Rattle.page_contracts.specs.DrumWords.{DrumWords}
+use Rattle.page_contracts.specs.Pages.{MayLose}
 use Rattle.plain_files.specs.OpenFiles.{open_at}
 use Rattle.plain_model.specs.State.{PlainJob, PlainState}
 use Rattle.plain_model.specs.Unit.{Effect}
@@ -26,12 +27,13 @@ IsAtOnce (TypeIn t text) = ⊥
 IsAtOnce e = Unit {0}
 
 -- an effect is had, in which no unit runs and no page is made: over each drum that fits, the system stands for the state that it leaves, and
--- these items are what it shows
+-- these items are what it shows; what is queued and held may have become less
 pub record Has {P : Type 0} {b : _} (old new : System P b) (effect : PlainState → Effect) (items : PlainState → List Item) : Type 0 where
   pub each : (d : DrumWords) → FitsPages old d
       → FitsPages new d × (state_of new d ≡ (effect (state_of old d)).state) × (items (state_of new d) ≡ (effect (state_of old d)).items)
   pub within : (entries : ℕ) → IsWithin old entries → IsWithin new entries
   pub most : b.means.most new.pages ≡ b.means.most old.pages
+  pub loses : MayLose b.means old.pages new.pages
 
 -- a job of a terminal as the plain machine has it
 abbrev pub job_in : {P : Type 0} {b : _} → System P b → Tty → Job → PlainJob

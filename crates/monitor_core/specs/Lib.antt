@@ -2,3 +2,4 @@ pub mod JobEvents
 pub mod Systems
 pub mod Effects
 pub mod Needing
+pub mod Deeds

@@ -37,6 +37,7 @@ mod at_job;
 mod boot;
 mod characters;
 mod commands;
+mod deeds;
 mod events;
 mod login;
 mod parts;

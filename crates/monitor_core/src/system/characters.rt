@@ -10,7 +10,10 @@ ghost use Rattle.plain_model.specs.declared.fork.TerminalMode.{TerminalMode as A
 ghost use Rattle.plain_model.specs.Commands.{with_job_at};
 ghost use Rattle.plain_model.specs.Trees.{readers_woken};
 ghost use Rattle.fork_tree.specs.Trees.{IsTree};
-ghost use Rattle.plain_model.specs.TypeEvents.{interrupted, line_ended, line_of, line_typed, posted_at, typed_at, typed_one, typed_so};
+ghost use Rattle.plain_model.specs.TypeEvents.{interrupted, line_of, line_typed, posted_at, typed_so};
+ghost use Rattle.event_deeds.specs.Deeds.{deed as deed_of, line_begun, typed_by};
+ghost use Rattle.event_deeds.specs.declared.deed.Deed.TheVariants.{Typed as ATyped};
+ghost use Rattle.monitor_core.specs.Deeds.{Does, FitsAnswer, PartReaches, line_end, once};
 ghost use Rattle.step_shown.specs.Echoes.{echo_items, FitsEcho};
 ghost use Rattle.monitor_core.specs.Effects.{Has, HasJobAt, job_in, stopped_tree};
 ghost use Rattle.monitor_calls.specs.Jobs.{job_at};
@@ -18,6 +21,7 @@ ghost use Rattle.step_shown.specs.Reaching.{EchoReaches};
 ghost use Rattle.step_shown.specs.declared.echo.Echo.{Echo as AnEcho};
 
 use crate::system::System;
+use event_deeds::{Answer, Deed, Showing};
 use exec_cmd::read;
 use fork_tree::{Tree, channel_word};
 use machine_names::character::LINE_END;
@@ -26,7 +30,7 @@ use monitor_calls::{Job, channel_of, seen_stop};
 use page_contracts::Pages;
 use plain_model::TerminalMode;
 use plain_typing::{CONTROL_C, Command, Typed};
-use step_shown::{Echo, Stop};
+use step_shown::{Echo, Stop, Told};
 use tty_lines::read_as;
 
 // The top fork has the freeze mark, where the forks of its job read the terminal.
@@ -72,6 +76,26 @@ fn stored(may: bool, code: u8) -> Echo
         Echo::Wakes(code)
     } else {
         Echo::Shows(code)
+    }
+}
+
+// A character that is over with what a terminal shows of it.
+fn echoed(t: Tty, shown: Echo) -> Answer
+    ensures { result ≡ once t shown }
+{
+    Answer {
+        showing: Showing::Echo(t, shown),
+        next: None,
+    }
+}
+
+// The end of a line, what its command prints so far, and what comes next of it.
+fn ended(t: Tty, told: Told, next: Option<Deed>) -> Answer
+    ensures { result ≡ line_end t told next }
+{
+    Answer {
+        showing: Showing::Echo(t, Echo::Ends(told)),
+        next,
     }
 }
 
@@ -162,53 +186,62 @@ impl<P: Pages> System<P> {
         command
     }
 
-    // The line is over, and its command is done.
-    fn end_line(&mut self, t: Tty, job: &Job) -> Echo
+    // The line is over, and its command is done, or begun.
+    fn end_line(&mut self, t: Tty, job: &Job) -> Answer
         requires terminal { IsTerminal t }
         requires job { HasJobAt self.old t job.now }
-        requires flat { P.means.flat ≡ true }
-        ensures has { Has self.old self.new (λ s. line_ended s t (job_in self.old t job.now)) (echo_items t result) }
-        ensures fits { FitsEcho result }
-        ensures others { EchoReaches t result self.old.tree.forks self.new.tree.forks }
+        ensures does { Does self.old self.new (λ s. line_begun s t (job_in self.old t job.now)) result }
+        ensures fits { FitsAnswer result }
+        ensures others { PartReaches result.showing self.old.tree.forks self.new.tree.forks }
     {
         let command = self.take_line(t, job);
-        Echo::Ends(self.command(t, *job, &command))
+        match self.begins(t, &command) {
+            Some(next) => ended(t, Told::Nothing, Some(next)),
+            None => {
+                let told = self.command(t, *job, &command);
+                ended(t, told, None)
+            }
+        }
     }
 
     // A character, as it is read, is typed for the monitor.
-    fn type_line(&mut self, t: Tty, job: Job, code: u8) -> Echo
+    fn type_line(&mut self, t: Tty, job: Job, code: u8) -> Answer
         requires terminal { IsTerminal t }
         requires job { HasJobAt self.old t job }
-        requires flat { P.means.flat ≡ true }
         requires code { code < 128 }
-        ensures has { Has self.old self.new (λ s. typed_one AMode.Command s t (job_in self.old t job) code) (echo_items t result) }
-        ensures fits { FitsEcho result }
-        ensures others { EchoReaches t result self.old.tree.forks self.new.tree.forks }
+        ensures does { Does self.old self.new (λ s. typed_by AMode.Command s t (job_in self.old t job) code) result }
+        ensures fits { FitsAnswer result }
+        ensures others { PartReaches result.showing self.old.tree.forks self.new.tree.forks }
     {
         if code == CONTROL_C {
-            return self.interrupt(t, job);
+            let shown = self.interrupt(t, job);
+            return echoed(t, shown);
         }
         if code == LINE_END {
             return self.end_line(t, &job);
         }
-        self.lengthen(t, job, code)
+        let shown = self.lengthen(t, job, code);
+        echoed(t, shown)
     }
 
-    /// A character is typed at a terminal. Once its job is gone, nothing is done.
-    pub fn type_one(&mut self, t: Tty, c: u8) -> Echo
+    /// A character is typed at a terminal. Where it ends a line that runs a program that is there, or logs out, the line is taken, and no more is done: that
+    /// comes next. Once its job is gone, nothing is done.
+    pub(crate) fn type_one(&mut self, t: Tty, c: u8) -> Answer
         requires terminal { IsTerminal t }
-        requires flat { P.means.flat ≡ true }
         requires code { c < 128 }
-        ensures has { Has self.old self.new (λ s. typed_at s t c) (echo_items t result) }
-        ensures fits { FitsEcho result }
-        ensures others { EchoReaches t result self.old.tree.forks self.new.tree.forks }
+        ensures does { Does self.old self.new (λ s. deed_of s (ATyped t c)) result }
+        ensures fits { FitsAnswer result }
+        ensures others { PartReaches result.showing self.old.tree.forks self.new.tree.forks }
     {
         match self.jobs[t.0 as usize] {
             Some(job) => match job.mode {
-                TerminalMode::Program => self.type_program(t, job, c),
+                TerminalMode::Program => {
+                    let shown = self.type_program(t, job, c);
+                    echoed(t, shown)
+                }
                 TerminalMode::Command => self.type_line(t, job, read_as(c)),
             },
-            None => Echo::Nothing,
+            None => echoed(t, Echo::Nothing),
         }
     }
 

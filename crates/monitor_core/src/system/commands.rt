@@ -1,48 +1,38 @@
 // The commands of a terminal's job to the monitor.
-ghost use Rattle.std.specs.Prelude.{◌≡◌, [], true};
+ghost use Rattle.std.specs.Prelude.{◌≡◌, IfSome, None};
 ghost use Rattle.machine_names.specs.Bounds.{IsTerminal};
 ghost use Rattle.plain_model.specs.Forks.{OthersStay};
-ghost use Rattle.plain_model.specs.Commands.{commanded, delete_file as delete_file_of, go_on as go_on_of, logged_out, run_program as run_program_of, start_again as start_again_of};
+ghost use Rattle.plain_model.specs.Commands.{commanded, delete_file as delete_file_of, go_on as go_on_of, start_again as start_again_of};
+ghost use Rattle.event_deeds.specs.Deeds.{IsNext};
+ghost use Rattle.file_tables.specs.Tables.{files_of};
 ghost use Rattle.step_shown.specs.Echoes.{told_items};
+ghost use Rattle.monitor_core.specs.Deeds.{begins_with};
 ghost use Rattle.monitor_core.specs.Effects.{Has, HasJobAt, job_in};
 
 use crate::system::System;
 use console_access::start;
-use job_commands::{delete, go_on, log_out, run};
+use event_deeds::{Deed, Purpose};
+use job_commands::{delete, go_on};
 use machine_names::{FileName, Tty};
 use monitor_calls::Job;
 use page_contracts::Pages;
-use plain_model::TerminalMode;
 use plain_typing::Command;
-use psi_calls::forget_lost;
 use step_shown::{Complaint, Told};
 
 impl<P: Pages> System<P> {
-    // RUN: the program in a file is run. Of the codes that forks of the job have assigned, those of the top fork stay.
-    fn run_program(&mut self, t: Tty, job: Job, name: &FileName) -> Told
+    // The deed that a command begins, where it isn't done at once: RUN of a file that is there, and LOGOUT.
+    pub(crate) fn begins(&self, t: Tty, command: &Command) -> Option<Deed>
         requires terminal { IsTerminal t }
-        requires job { HasJobAt self.old t job }
-        requires flat { P.means.flat ≡ true }
-        ensures has { Has self.old self.new (λ s. run_program_of s t (job_in self.old t job) name.now) (told_items t result) }
-        ensures others { OthersStay t self.old.tree.forks self.new.tree.forks }
+        ensures begins { result ≡ begins_with (files_of self.now.files) t command.now }
+        ensures fits { IfSome result IsNext }
     {
-        let Some(file) = self.files.find(name) else {
-            return Told::Refused(Complaint::NoFile);
-        };
-        self.tree.are_trees();
-        match run(job.top, file, &mut self.tree, &mut self.pages) {
-            Ok(word) => {
-                self.tree.are_trees();
-                self.jobs[t.0 as usize] = Some(Job {
-                    user: job.user,
-                    mode: TerminalMode::Program,
-                    top: job.top,
-                    start: Some(word),
-                });
-                forget_lost(&mut self.typed[t.0 as usize].input, &self.tree);
-                Told::Nothing
-            }
-            Err(_) => Told::Refused(Complaint::NoProgram),
+        match command {
+            Command::Run(name) => match self.files.find(name) {
+                Some(file) => Some(Deed::Begin(t, self.files.name_of(file))),
+                None => None,
+            },
+            Command::Logout => Some(Deed::Kill(t, Purpose::Logout)),
+            _ => None,
         }
     }
 
@@ -93,38 +83,24 @@ impl<P: Pages> System<P> {
         }
     }
 
-    // LOGOUT: the job ends, with its forks and JFNs.
-    fn log_out(&mut self, t: Tty, job: Job) -> Told
-        requires terminal { IsTerminal t }
-        requires job { HasJobAt self.old t job }
-        requires flat { P.means.flat ≡ true }
-        ensures has { Has self.old self.new (λ s. record { state = logged_out s t (job_in self.old t job); items = [] }) (told_items t result) }
-        ensures others { OthersStay t self.old.tree.forks self.new.tree.forks }
-    {
-        self.tree.are_trees();
-        log_out(job.top, &mut self.tree, &mut self.pages);
-        self.tree.are_trees();
-        self.files.release_all(t);
-        self.jobs[t.0 as usize] = None;
-        Told::Nothing
-    }
-
-    /// A command of a terminal's job, and what it prints.
+    /// A command of a terminal's job that is done at once, and what it prints.
     pub(crate) fn command(&mut self, t: Tty, job: Job, command: &Command) -> Told
         requires terminal { IsTerminal t }
         requires job { HasJobAt self.old t job }
-        requires flat { P.means.flat ≡ true }
+        requires whole { begins_with (files_of self.old.files) t command.now ≡ None }
         ensures has { Has self.old self.new (λ s. commanded s t (job_in self.old t job) command.now) (told_items t result) }
         ensures others { OthersStay t self.old.tree.forks self.new.tree.forks }
     {
         match command {
             Command::Blank => Told::Prompt,
-            Command::Run(name) => self.run_program(t, job, name),
+            // There is no such file.
+            Command::Run(_) => Told::Refused(Complaint::NoFile),
             Command::Start => self.start_again(t, job),
             Command::Continue => self.go_on(t, job),
             Command::Directory => Told::Files(job.user),
             Command::Delete(name) => self.delete_file(t, name),
-            Command::Logout => self.log_out(t, job),
+            // It isn't done at once.
+            Command::Logout => unreachable!(),
             Command::Unknown => Told::Refused(Complaint::Unknown),
         }
     }

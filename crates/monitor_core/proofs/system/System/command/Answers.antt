@@ -1,12 +1,12 @@
 use Rattle.std.proofs.Common.{refl}
-use Rattle.monitor_core.proofs.Commanded.{has_blank, has_continue, has_delete, has_directory, has_logout, has_run, has_start, has_unknown}
+use Rattle.monitor_core.proofs.Commanded.{has_blank, has_continue, has_delete, has_directory, has_no_program, has_start, has_unknown}
 use Rattle.monitor_core.proofs.system.System.command.Goals as goal
 
 pub returns-in-Blank-clause-has : goal.returns-in-Blank-clause-has
 returns-in-Blank-clause-has g c = has_blank c.args.self.now _ c.args.t c.args.job c.args.command.now c.in-Blank.is refl refl refl refl refl refl
 
 pub returns-in-Run-clause-has : goal.returns-in-Run-clause-has
-returns-in-Run-clause-has g c = has_run c.args.self.now c.run_program.new.self c.args.t c.args.job c.args.command.now _ c.in-Run.is c.run_program.result c.run_program.ensures.has
+returns-in-Run-clause-has g c = has_no_program c.args.self.now _ c.args.t c.args.job c.args.command.now _ c.in-Run.is c.requires.whole refl refl refl refl refl refl
 
 pub returns-in-Start-clause-has : goal.returns-in-Start-clause-has
 returns-in-Start-clause-has g c = has_start c.args.self.now c.start_again.new.self c.args.t c.args.job c.args.command.now c.in-Start.is c.start_again.result c.start_again.ensures.has
@@ -19,9 +19,6 @@ returns-in-Directory-clause-has g c = has_directory c.args.self.now _ c.args.t c
 
 pub returns-in-Delete-clause-has : goal.returns-in-Delete-clause-has
 returns-in-Delete-clause-has g c = has_delete c.args.self.now c.delete_file.new.self c.args.t c.args.job c.args.command.now _ c.in-Delete.is c.delete_file.result c.delete_file.ensures.has
-
-pub returns-in-Logout-clause-has : goal.returns-in-Logout-clause-has
-returns-in-Logout-clause-has g c = has_logout c.args.self.now c.log_out.new.self c.args.t c.args.job c.args.command.now c.in-Logout.is c.log_out.result c.log_out.ensures.has
 
 pub returns-in-Unknown-clause-has : goal.returns-in-Unknown-clause-has
 returns-in-Unknown-clause-has g c = has_unknown c.args.self.now _ c.args.t c.args.job c.args.command.now c.in-Unknown.is refl refl refl refl refl refl

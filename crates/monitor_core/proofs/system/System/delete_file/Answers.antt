@@ -2,6 +2,8 @@ use Rattle.std.proofs.Common.{refl, sym, subst}
 use Rattle.monitor_calls.specs.Jobs.{AreUnheld}
 use Rattle.monitor_calls.proofs.Sounds.{same_tops, sound_same}
 use Rattle.monitor_core.proofs.DeleteDid.{has_deleted, has_not_deleted}
+use Rattle.std.proofs.Common.{rules}
+use Rattle.ka10_spots.proofs.Stored.{lost_none}
 use Rattle.monitor_core.proofs.system.System.delete_file.Goals as goal
 
 pub invariant_of-self : goal.invariant_of-self
@@ -23,3 +25,6 @@ pub returns-in-Err-clause-has : goal.returns-in-Err-clause-has
 returns-in-Err-clause-has g c =
     let e = c.in-Err.ensures in
     has_not_deleted c.args.self.now _ c.args.t c.args.name.now c.in-Some.file.0 c.in-Some.ensures.found.0 c.in-Some.ensures.found.1 refl refl refl refl e.grows e.jfns e.told e.files.0 e.files.1
+
+pub returns-in_default-clause-has : goal.returns-in_default-clause-has
+returns-in_default-clause-has g c = record { each = search rules; within = search rules; most = search rules; loses = lost_none g.P.Pages.means c.args.self.now.pages }

@@ -17,6 +17,8 @@ use Rattle.monitor_core.proofs.PostDid.{forced_fits, forced_is, has_posted, kept
 use Rattle.monitor_core.proofs.Systems.{unheld_still}
 use Rattle.monitor_core.proofs.UnitDid.{seen_fits, tops_left}
 use Rattle.monitor_core.proofs.JobOthers.{posts_stay}
+use Rattle.std.proofs.Common.{rules}
+use Rattle.ka10_spots.proofs.Stored.{lost_none}
 use Rattle.monitor_core.proofs.system.System.post_typed.Goals as goal
 
 pub invariant_of-self : goal.invariant_of-self
@@ -80,3 +82,6 @@ returns-clause-fits g c =
 
 pub returns-clause-others : goal.returns-clause-others
 returns-clause-others g c t = posts_stay c.args.self.now.tree c.post_channels-forced.new.self c.are_trees.ensures c.args.name c.channel_word.result c.post_channels-forced.ensures.forks
+
+pub returns-in_default-clause-has : goal.returns-in_default-clause-has
+returns-in_default-clause-has g c t = record { each = search rules; within = search rules; most = search rules; loses = lost_none g.P.Pages.means c.args.self.now.pages }

@@ -11,6 +11,8 @@ use Rattle.monitor_calls.proofs.Sounds.{same_tops_set}
 use Rattle.monitor_core.proofs.Systems.{top_fork_of, unheld_still}
 use Rattle.monitor_core.proofs.TypeDid.{low_job}
 use Rattle.monitor_core.proofs.JobOthers.{top_changed}
+use Rattle.std.proofs.Common.{rules}
+use Rattle.ka10_spots.proofs.Stored.{lost_none}
 use Rattle.monitor_core.proofs.system.System.start_again.Goals as goal
 
 pub start-requires-clause-lives : goal.start-requires-clause-lives
@@ -39,3 +41,6 @@ returns-clause-has g c =
 
 pub returns-clause-others : goal.returns-clause-others
 returns-clause-others g c = top_changed c.args.self.now c.args.t c.args.job c.requires.job c.are_trees.ensures (restarted c.right.result) c.start.new.tree c.start.ensures
+
+pub returns-in_default-clause-has : goal.returns-in_default-clause-has
+returns-in_default-clause-has g c = record { each = search rules; within = search rules; most = search rules; loses = lost_none g.P.Pages.means c.args.self.now.pages }

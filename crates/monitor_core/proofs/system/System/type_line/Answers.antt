@@ -1,12 +1,25 @@
-use Rattle.step_shown.specs.Echoes.{echo_items}
-use Rattle.monitor_core.proofs.CharacterDid.{has_end, has_other, has_stop}
+use Rattle.std.proofs.Common.{◌≡◌, sym, subst}
+use Rattle.event_deeds.specs.Deeds.{typed_by}
+use Rattle.event_deeds.specs.declared.answer.Answer.{Answer}
+use Rattle.plain_model.specs.declared.fork.TerminalMode.TheVariants.{Command}
+use Rattle.monitor_core.specs.Deeds.{Does, FitsAnswer, PartReaches}
+use Rattle.monitor_core.specs.Effects.{job_in}
+use Rattle.monitor_core.proofs.CharacterDid.{does_end, does_other, does_stop}
 use Rattle.monitor_core.proofs.system.System.type_line.Goals as goal
 
-pub returns-then-code-eq-CONTROL_C-clause-has : goal.returns-then-code-eq-CONTROL_C-clause-has
-returns-then-code-eq-CONTROL_C-clause-has g c = has_stop c.args.self.now c.interrupt.new.self c.args.t c.args.job (echo_items c.args.t c.interrupt.result) c.args.code c.if-code-eq-CONTROL_C.true c.interrupt.ensures.has
+pub returns-then-code-eq-CONTROL_C-clause-does : goal.returns-then-code-eq-CONTROL_C-clause-does
+returns-then-code-eq-CONTROL_C-clause-does g c =
+    let m = c.args.self.now in
+    let last = c.interrupt-shown.new.self in
+    subst (Does m last (λ s. typed_by Command s c.args.t (job_in m c.args.t c.args.job) c.args.code)) (sym c.echoed.ensures)
+    (does_stop m last c.args.t c.args.job c.interrupt-shown.result c.args.code c.if-code-eq-CONTROL_C.true c.interrupt-shown.ensures.has)
 
-pub returns-then-code-eq-LINE_END-clause-has : goal.returns-then-code-eq-LINE_END-clause-has
-returns-then-code-eq-LINE_END-clause-has g c = has_end c.args.self.now c.end_line.new.self c.args.t c.args.job (echo_items c.args.t c.end_line.result) c.args.code c.if-code-eq-LINE_END.true c.end_line.ensures.has
+pub returns-then-code-eq-LINE_END-clause-does : goal.returns-then-code-eq-LINE_END-clause-does
+returns-then-code-eq-LINE_END-clause-does g c = does_end c.args.self.now c.end_line.new.self c.args.t c.args.job c.end_line.result c.args.code c.if-code-eq-LINE_END.true c.end_line.ensures.does
 
-pub returns-clause-has : goal.returns-clause-has
-returns-clause-has g c = has_other c.args.self.now c.lengthen.new.self c.args.t c.args.job (echo_items c.args.t c.lengthen.result) c.args.code c.if-code-eq-CONTROL_C.false c.if-code-eq-LINE_END.false c.lengthen.ensures.has
+pub returns-clause-does : goal.returns-clause-does
+returns-clause-does g c =
+    let m = c.args.self.now in
+    let last = c.lengthen-shown.new.self in
+    subst (Does m last (λ s. typed_by Command s c.args.t (job_in m c.args.t c.args.job) c.args.code)) (sym c.echoed-2.ensures)
+    (does_other m last c.args.t c.args.job c.lengthen-shown.result c.args.code c.if-code-eq-CONTROL_C.false c.if-code-eq-LINE_END.false c.lengthen-shown.ensures.has)

@@ -15,6 +15,9 @@ use Rattle.monitor_core.proofs.PostDid.{has_posting}
 use Rattle.monitor_calls.proofs.Sounds.{same_tops, stands}
 use Rattle.monitor_core.proofs.TypeDid.{low_typed}
 use Rattle.monitor_core.proofs.JobOthers.{readers_stay, stored_reaches}
+use Rattle.std.proofs.Common.{arith, rules}
+use Rattle.std.proofs.lemmas.Grind.{common_steps}
+use Rattle.ka10_spots.proofs.Stored.{lost_none}
 use Rattle.monitor_core.proofs.system.System.type_program.Goals as goal
 
 pub invariant_of-self : goal.invariant_of-self
@@ -63,3 +66,6 @@ returns-in-Stored-clause-others g c =
     let tree = c.args.self.now.tree in
     stored_reaches c.args.t c.wake-may.result c.read_as.result c.stored.result c.stored.ensures tree.forks c.wake-may.new.tree.forks (λ no. ap (λ (x : PlainTree). x.forks) (c.wake-may.ensures.none no))
     (readers_stay tree c.wake-may.new.tree c.wake-may.ensures.was c.args.t c.wake-may.ensures.tree)
+
+pub returns-in-Dropped-clause-has : goal.returns-in-Dropped-clause-has
+returns-in-Dropped-clause-has g c = record { each = grind (arith, common_steps); within = search rules; most = search rules; loses = lost_none g.P.Pages.means c.args.self.now.pages }
