@@ -5,3 +5,4 @@ mod Again
 mod Stepping
 mod Turning
 mod Families
+mod Texts

@@ -63,10 +63,10 @@ module _ (map_home : ForkName → Option ℕ) (page_home : PageName → Option �
   abbrev named : List Housed → Home → Bool
   named names home = is_named map_home page_home names home.0
 
-  named_front : (home : Home) (xs ys : List Housed) → named xs home ≡ true → named (xs ++ ys) home ≡ true
+  pub named_front : (home : Home) (xs ys : List Housed) → named xs home ≡ true → named (xs ++ ys) home ≡ true
   named_front home xs ys is = named_more map_home page_home home.0 xs ys ∙ or_first (named xs home) (named ys home) is
 
-  named_later : (home : Home) (xs ys : List Housed) → named ys home ≡ true → named (xs ++ ys) home ≡ true
+  pub named_later : (home : Home) (xs ys : List Housed) → named ys home ≡ true → named (xs ++ ys) home ≡ true
   named_later home xs ys is = named_more map_home page_home home.0 xs ys ∙ or_later (named xs home) (named ys home) is
 
   pub entry_named : (scene : Scene) (p : NumberedPages) (s : Slot) (home : Home) (names : List Housed) → AreHomed map_home page_home scene → entry_need scene p s ≡ Some (need.Page home) → named (a_map s.fork ∷ names) home ≡ true

@@ -10,6 +10,7 @@ ghost use Rattle.page_contracts.specs.declared.answers.Need.TheVariants.{Page};
 ghost use Rattle.page_homes.specs.declared.homes.Home.{Home as AHome};
 ghost use Rattle.plain_model.specs.ByteCalls.{ByteTurn};
 ghost use Rattle.plain_model.specs.Calls.{Turn, no_files};
+ghost use Rattle.plain_model.specs.FileCalls.{JfnAsked, gtjfn};
 ghost use Rattle.plain_model.specs.Forks.{ForkMap};
 ghost use Rattle.plain_model.specs.State.{PlainState};
 ghost use Rattle.plain_model.specs.declared.call.ForkChange.{ForkChange as AForkChange};
@@ -23,6 +24,8 @@ ghost use Rattle.plain_units.specs.declared.registers.Regs.{Regs as ARegs};
 ghost use Rattle.plain_units.specs.declared.unit.TheConstants.{MOST_REFERENCES};
 ghost use Rattle.event_deeds.specs.declared.deed.Deed.{Deed as ADeed};
 ghost use Rattle.file_bytes.specs.Turning.{ByteNeeds};
+ghost use Rattle.file_calls.specs.Asking.{names_of};
+ghost use Rattle.file_calls.specs.Turning.{TextNeeds};
 ghost use Rattle.file_tables.specs.Keys.{seen_in};
 ghost use Rattle.file_tables.specs.declared.tables.FileTables.{FileTables as ATables};
 ghost use Rattle.fork_calls.specs.Needing.{TurnNeeds as ForkNeeds};
@@ -65,7 +68,8 @@ pub fn what_steps_need_is_named()
         → AreHomed map_home page_home p.scene → run_over f p steps t ≡ stopped (need (Page home)) → is_named map_home page_home (names_of_steps f steps t) home.0 ≡ true }
 {}
 
-/// Where the turn of a call needs a page or a map first, that is the home of one of its names: of the calls on bytes, on strings, on pseudo-interrupts and on maps.
+/// Where the turn of a call needs a page or a map first, that is the home of one of its names: of the calls on bytes, on strings, on pseudo-interrupts and on maps,
+/// and of GTJFN, which alone of the calls on JFNs needs anything.
 pub fn what_turns_need_is_named()
     ensures bytes { (tables : ATables) (scene : Scene) (p : NumberedPages) (t : ByteTurn) (map_home : AForkName → Option ℕ) (page_home : APageName → Option ℕ) (home : AHome)
         → AreHomed map_home page_home scene → ByteNeeds tables scene p t (Page home) → is_named map_home page_home (names_of_turn (seen_in tables) none_at_end p t) home.0 ≡ true }
@@ -76,6 +80,8 @@ pub fn what_turns_need_is_named()
     ensures maps { (tables : ATables) (scene : Scene) (p : NumberedPages) (t : Turn (List ℕ) AMapChange) (map_home : AForkName → Option ℕ) (page_home : APageName → Option ℕ) (home : AHome)
         → AreHomed map_home page_home scene → MapNeeds tables scene p t (Page home)
         → is_named map_home page_home (names_of_turn (seen_in tables) (names_of_end names_of_map_change) p t) home.0 ≡ true }
+    ensures texts { (tables : ATables) (p : Framed) (a : JfnAsked) (map_home : AForkName → Option ℕ) (page_home : APageName → Option ℕ) (home : AHome)
+        → AreHomed map_home page_home p.scene → TextNeeds p a (Page home) → is_named map_home page_home (names_of_turn (names_of tables) none_at_end p.pages (gtjfn a)) home.0 ≡ true }
 {}
 
 /// Where the turn of a fork call needs a page or a map first, that is the home of one of its names, as long as each fork whose map is in no frame is there.
