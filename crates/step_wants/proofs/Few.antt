@@ -34,7 +34,7 @@ page_few None = omega arith
 page_few (Some n) = omega arith
 
 module _ {K : Type 0} {file_cmp : K → K → Ordering} where
-  maps_to_few : (p : PlainPages file_cmp) (at : Spot K) → length (maps_to p at) ≤ 4
+  pub maps_to_few : (p : PlainPages file_cmp) (at : Spot K) → length (maps_to p at) ≤ 4
   unfolding maps_on_way
   maps_to_few p (in_map s) = let few = maps_few 4 (entry_at p.maps) s in omega (arith, few, length-map (maps_within 4 (entry_at p.maps) s) a_map)
   maps_to_few p (in_file f) = omega arith

@@ -6,3 +6,6 @@ mod Stepping
 mod Turning
 mod Families
 mod Texts
+mod Once
+mod Small
+mod Bounded

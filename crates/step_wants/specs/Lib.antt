@@ -1,3 +1,4 @@
 pub mod Names
 pub mod Naming
 pub mod Wants
+pub mod Homes

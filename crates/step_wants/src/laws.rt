@@ -1,5 +1,6 @@
 // What follows from the definitions. A law does nothing when it runs.
-ghost use Rattle.std.specs.Prelude.{◌≡◌, ◌+◌, ◌*◌, ◌≤◌, ℕ, Option, Some, List, length, true};
+ghost use Rattle.std.specs.Prelude.{◌==◌, ◌<◌, ◌≡◌, ◌+◌, ◌*◌, ◌≤◌, ℕ, Option, Some, List, length, true};
+ghost use Rattle.std.specs.List.{list_any};
 ghost use Rattle.std.specs.Ordering.{nat_cmp};
 ghost use Rattle.std.specs.FinMap.{contains_key};
 ghost use Rattle.machine_names.specs.Orders.{name_cmp};
@@ -7,6 +8,7 @@ ghost use Rattle.machine_names.specs.declared.names.ForkName.{ForkName as AForkN
 ghost use Rattle.machine_names.specs.declared.names.PageName.{PageName as APageName};
 ghost use Rattle.page_contracts.specs.Pages.{Scene, map_away, page_away};
 ghost use Rattle.page_contracts.specs.declared.answers.Need.TheVariants.{Page};
+ghost use Rattle.page_contracts.specs.declared.store.TheConstants.{MOST_HELD};
 ghost use Rattle.page_homes.specs.declared.homes.Home.{Home as AHome};
 ghost use Rattle.plain_model.specs.ByteCalls.{ByteTurn};
 ghost use Rattle.plain_model.specs.Calls.{Turn, no_files};
@@ -22,21 +24,24 @@ ghost use Rattle.plain_units.specs.Instructions.{instruction};
 ghost use Rattle.plain_units.specs.Steps.{Progress, Steps, begun, need, stopped};
 ghost use Rattle.plain_units.specs.declared.registers.Regs.{Regs as ARegs};
 ghost use Rattle.plain_units.specs.declared.unit.TheConstants.{MOST_REFERENCES};
+ghost use Rattle.event_deeds.specs.Deeds.{Task, unit_of};
 ghost use Rattle.event_deeds.specs.declared.deed.Deed.{Deed as ADeed};
 ghost use Rattle.file_bytes.specs.Turning.{ByteNeeds};
-ghost use Rattle.file_calls.specs.Asking.{names_of};
+ghost use Rattle.file_calls.specs.Asking.{names_of as names_told};
 ghost use Rattle.file_calls.specs.Turning.{TextNeeds};
 ghost use Rattle.file_tables.specs.Keys.{seen_in};
 ghost use Rattle.file_tables.specs.declared.tables.FileTables.{FileTables as ATables};
+ghost use Rattle.fork_tree.specs.Trees.{AreSlotted};
 ghost use Rattle.fork_calls.specs.Needing.{TurnNeeds as ForkNeeds};
 ghost use Rattle.ka10_unit.specs.Gathers.{Framed};
 ghost use Rattle.ka10_unit.specs.Taking.{run_over};
 ghost use Rattle.pmap_calls.specs.Making.{MapNeeds};
 ghost use Rattle.psi_calls.specs.Turning.{PsiNeeds};
 ghost use Rattle.string_io.specs.Turning.{StringNeeds};
+ghost use Rattle.step_wants.specs.Homes.{wants};
 ghost use Rattle.step_wants.specs.Names.{is_named, names_of_steps, names_of_turn, names_on_way, none_at_end};
 ghost use Rattle.step_wants.specs.Naming.{AreHomed, AskAgainLast};
-ghost use Rattle.step_wants.specs.Wants.{names_of_deed, names_of_end, names_of_fork_change, names_of_map_change};
+ghost use Rattle.step_wants.specs.Wants.{names_of, names_of_deed, names_of_end, names_of_fork_change, names_of_map_change};
 
 /// The way to a page has at most four maps and one page.
 pub fn a_way_has_five_names()
@@ -81,7 +86,7 @@ pub fn what_turns_need_is_named()
         → AreHomed map_home page_home scene → MapNeeds tables scene p t (Page home)
         → is_named map_home page_home (names_of_turn (seen_in tables) (names_of_end names_of_map_change) p t) home.0 ≡ true }
     ensures texts { (tables : ATables) (p : Framed) (a : JfnAsked) (map_home : AForkName → Option ℕ) (page_home : APageName → Option ℕ) (home : AHome)
-        → AreHomed map_home page_home p.scene → TextNeeds p a (Page home) → is_named map_home page_home (names_of_turn (names_of tables) none_at_end p.pages (gtjfn a)) home.0 ≡ true }
+        → AreHomed map_home page_home p.scene → TextNeeds p a (Page home) → is_named map_home page_home (names_of_turn (names_told tables) none_at_end p.pages (gtjfn a)) home.0 ≡ true }
 {}
 
 /// Where the turn of a fork call needs a page or a map first, that is the home of one of its names, as long as each fork whose map is in no frame is there.
@@ -89,4 +94,15 @@ pub fn what_fork_turns_need_is_named()
     ensures { (p : Framed) (forks : ForkMap) (t : Turn ⊥ AForkChange) (map_home : AForkName → Option ℕ) (page_home : APageName → Option ℕ) (home : AHome)
         → AreHomed map_home page_home p.scene → ((f : AForkName) (h : ℕ) → p.scene.map_away f ≡ Some h → contains_key forks f ≡ true) → ForkNeeds p forks t (Page home)
         → is_named map_home page_home (names_of_turn no_files (names_of_end (names_of_fork_change forks)) p.pages t) home.0 ≡ true }
+{}
+
+/// What a task wants are the homes of its names.
+pub fn wants_are_named()
+    ensures { (s : PlainState) (x : Task) (map_home : AForkName → Option ℕ) (page_home : APageName → Option ℕ) (home : ℕ) → list_any (λ h. h == home) (wants map_home page_home s x) ≡ is_named map_home page_home (names_of s x) home }
+{}
+
+/// A unit wants fewer homes than may be held for a fork, where the forks live in a tree and no other fork's map has a home.
+pub fn a_unit_wants_few()
+    ensures { (s : PlainState) (f : AForkName) (map_home : AForkName → Option ℕ) (page_home : APageName → Option ℕ) → AreSlotted s.forks
+        → ((g : AForkName) (h : ℕ) → map_home g ≡ Some h → contains_key s.forks g ≡ true) → length (wants map_home page_home s (unit_of f)) < MOST_HELD }
 {}
