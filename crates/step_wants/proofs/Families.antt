@@ -41,7 +41,7 @@ use Rattle.step_wants.specs.Wants.{maps_below, names_of_end, names_of_fork_chang
 use Rattle.step_wants.proofs.Away.{named_behind, named_first, named_wider, or_first, or_later}
 use Rattle.step_wants.proofs.Turning.{entry_named, one_touch_so, steps_so, turn_named, words_so}
 
-same_name : (f g : ForkName) → same_fork f g ≡ true → f ≡ g
+pub same_name : (f g : ForkName) → same_fork f g ≡ true → f ≡ g
 same_name f g same = grind arith
 
 module _ (map_home : ForkName → Option ℕ) (page_home : PageName → Option ℕ) (home : Home) where

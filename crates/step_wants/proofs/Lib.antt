@@ -9,3 +9,9 @@ mod Texts
 mod Once
 mod Small
 mod Bounded
+mod FewCalls
+mod FewOthers
+mod Own
+mod Keeping
+mod Channels
+mod Units

@@ -31,7 +31,7 @@ module _ (map_home : ForkName → Option ℕ) (page_home : PageName → Option �
   either_of true b is x y = x refl
   either_of false b is x y = y is
 
-  homes_few : (names : List Housed) → length (homes_for map_home page_home names) ≤ length names
+  pub homes_few : (names : List Housed) → length (homes_for map_home page_home names) ≤ length names
   homes_few [] = omega arith
   homes_few (x ∷ xs) = by (home_for map_home page_home x) (homes_few xs)
     where
@@ -110,6 +110,18 @@ module _ (map_home : ForkName → Option ℕ) (page_home : PageName → Option �
         by (Some (Names m a)) rest = own_small s.fork 0 [] same none_small
         by (Some (Follows serial page a)) rest =
             let next = followed s serial page in own_small s.fork 0 (map a_map (maps_within n entries next)) same (rest next same)
+
+    -- none but maps of the terminal are on a way
+    pub maps_own : (entries : Entries) (s : Slot) → s.fork.tty ≡ t → Within (map a_map (maps_on_way entries s)) (map a_map own)
+    unfolding maps_on_way
+    maps_own entries s same h is = by (maps_small 4 entries s same)
+      where
+        only : (others : List Housed) → length others ≤ 0 → is_named map_home page_home (map a_map own ++ others) h ≡ true → is_named map_home page_home (map a_map own) h ≡ true
+        only [] none e = either_of (is_named map_home page_home (map a_map own) h) (is_named map_home page_home [] h) (sym (named_more map_home page_home h (map a_map own) []) ∙ e) (λ there. there) (λ no. absurd (cc no))
+        only (x ∷ xs) none e = absurd (omega (arith, none))
+
+        by : IsSmall 0 (map a_map (maps_within 4 entries s)) → is_named map_home page_home (map a_map own) h ≡ true
+        by small = only small.others small.few (small.within h is)
 
     module _ {K : Type 0} {file_cmp : K → K → Ordering} where
       -- the way to a page of a fork of the terminal

@@ -15,6 +15,7 @@ ghost use Rattle.plain_model.specs.Calls.{Turn, no_files};
 ghost use Rattle.plain_model.specs.FileCalls.{JfnAsked, gtjfn};
 ghost use Rattle.plain_model.specs.Forks.{ForkMap};
 ghost use Rattle.plain_model.specs.State.{PlainState};
+ghost use Rattle.plain_model.specs.Trees.{tree_of};
 ghost use Rattle.plain_model.specs.declared.call.ForkChange.{ForkChange as AForkChange};
 ghost use Rattle.plain_model.specs.declared.call.InterruptChange.{InterruptChange as AnInterruptChange};
 ghost use Rattle.plain_model.specs.declared.call.MapChange.{MapChange as AMapChange};
@@ -31,7 +32,7 @@ ghost use Rattle.file_calls.specs.Asking.{names_of as names_told};
 ghost use Rattle.file_calls.specs.Turning.{TextNeeds};
 ghost use Rattle.file_tables.specs.Keys.{seen_in};
 ghost use Rattle.file_tables.specs.declared.tables.FileTables.{FileTables as ATables};
-ghost use Rattle.fork_tree.specs.Trees.{AreSlotted};
+ghost use Rattle.fork_tree.specs.Trees.{IsTree};
 ghost use Rattle.fork_calls.specs.Needing.{TurnNeeds as ForkNeeds};
 ghost use Rattle.ka10_unit.specs.Gathers.{Framed};
 ghost use Rattle.ka10_unit.specs.Taking.{run_over};
@@ -103,6 +104,6 @@ pub fn wants_are_named()
 
 /// A unit wants fewer homes than may be held for a fork, where the forks live in a tree and no other fork's map has a home.
 pub fn a_unit_wants_few()
-    ensures { (s : PlainState) (f : AForkName) (map_home : AForkName → Option ℕ) (page_home : APageName → Option ℕ) → AreSlotted s.forks
+    ensures { (s : PlainState) (f : AForkName) (map_home : AForkName → Option ℕ) (page_home : APageName → Option ℕ) → IsTree (tree_of s)
         → ((g : AForkName) (h : ℕ) → map_home g ≡ Some h → contains_key s.forks g ≡ true) → length (wants map_home page_home s (unit_of f)) < MOST_HELD }
 {}
