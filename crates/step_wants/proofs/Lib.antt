@@ -15,3 +15,5 @@ mod Own
 mod Keeping
 mod Channels
 mod Units
+mod DeedsNamed
+mod UnitsNamed

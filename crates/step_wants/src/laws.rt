@@ -3,34 +3,36 @@ ghost use Rattle.std.specs.Prelude.{◌==◌, ◌<◌, ◌≡◌, ◌+◌, ◌*�
 ghost use Rattle.std.specs.List.{list_any};
 ghost use Rattle.std.specs.Ordering.{nat_cmp};
 ghost use Rattle.std.specs.FinMap.{contains_key};
-ghost use Rattle.machine_names.specs.Orders.{name_cmp};
+ghost use Rattle.machine_names.specs.Orders.{FilePage, name_cmp};
 ghost use Rattle.machine_names.specs.declared.names.ForkName.{ForkName as AForkName};
 ghost use Rattle.machine_names.specs.declared.names.PageName.{PageName as APageName};
 ghost use Rattle.page_contracts.specs.Pages.{Scene, map_away, page_away};
 ghost use Rattle.page_contracts.specs.declared.answers.Need.TheVariants.{Page};
-ghost use Rattle.page_contracts.specs.declared.store.TheConstants.{MOST_HELD};
+ghost use Rattle.page_contracts.specs.declared.store.TheConstants.{MOST_HELD, MOST_HELD_FOR_CONSOLE};
 ghost use Rattle.page_homes.specs.declared.homes.Home.{Home as AHome};
 ghost use Rattle.plain_model.specs.ByteCalls.{ByteTurn};
 ghost use Rattle.plain_model.specs.Calls.{Turn, no_files};
-ghost use Rattle.plain_model.specs.FileCalls.{JfnAsked, gtjfn};
+ghost use Rattle.plain_model.specs.Families.{Parts};
+ghost use Rattle.plain_model.specs.FileCalls.{JfnAsked, Jobs, gtjfn};
 ghost use Rattle.plain_model.specs.Forks.{ForkMap};
-ghost use Rattle.plain_model.specs.State.{PlainState};
-ghost use Rattle.plain_model.specs.Trees.{tree_of};
 ghost use Rattle.plain_model.specs.declared.call.ForkChange.{ForkChange as AForkChange};
 ghost use Rattle.plain_model.specs.declared.call.InterruptChange.{InterruptChange as AnInterruptChange};
 ghost use Rattle.plain_model.specs.declared.call.MapChange.{MapChange as AMapChange};
 ghost use Rattle.plain_pages.specs.PlainPages.{NumberedPages, PlainPages};
-ghost use Rattle.plain_pages.specs.References.{Spot};
+ghost use Rattle.plain_pages.specs.References.{Spot, in_file, page_at};
 ghost use Rattle.plain_units.specs.Instructions.{instruction};
 ghost use Rattle.plain_units.specs.Steps.{Progress, Steps, begun, need, stopped};
 ghost use Rattle.plain_units.specs.declared.registers.Regs.{Regs as ARegs};
 ghost use Rattle.plain_units.specs.declared.unit.TheConstants.{MOST_REFERENCES};
-ghost use Rattle.event_deeds.specs.Deeds.{Task, unit_of};
+ghost use Rattle.event_deeds.specs.Deeds.{IsTold, Task, deed_of, unit_of};
 ghost use Rattle.event_deeds.specs.declared.deed.Deed.{Deed as ADeed};
 ghost use Rattle.file_bytes.specs.Turning.{ByteNeeds};
 ghost use Rattle.file_calls.specs.Asking.{names_of as names_told};
 ghost use Rattle.file_calls.specs.Turning.{TextNeeds};
-ghost use Rattle.file_tables.specs.Keys.{seen_in};
+ghost use Rattle.file_tables.specs.Keys.{key_of, seen_in};
+ghost use Rattle.file_tables.specs.Tables.{files_of};
+ghost use Rattle.monitor_calls.specs.Reasons.{CallNeeds, UnitNeeds};
+ghost use Rattle.plain_model.specs.declared.fork.Fork.{Fork as AFork};
 ghost use Rattle.file_tables.specs.declared.tables.FileTables.{FileTables as ATables};
 ghost use Rattle.fork_tree.specs.Trees.{IsTree};
 ghost use Rattle.fork_calls.specs.Needing.{TurnNeeds as ForkNeeds};
@@ -39,10 +41,10 @@ ghost use Rattle.ka10_unit.specs.Taking.{run_over};
 ghost use Rattle.pmap_calls.specs.Making.{MapNeeds};
 ghost use Rattle.psi_calls.specs.Turning.{PsiNeeds};
 ghost use Rattle.string_io.specs.Turning.{StringNeeds};
-ghost use Rattle.step_wants.specs.Homes.{wants};
+ghost use Rattle.step_wants.specs.Homes.{DeedNeeds, told, wants};
 ghost use Rattle.step_wants.specs.Names.{is_named, names_of_steps, names_of_turn, names_on_way, none_at_end};
 ghost use Rattle.step_wants.specs.Naming.{AreHomed, AskAgainLast};
-ghost use Rattle.step_wants.specs.Wants.{names_of, names_of_deed, names_of_end, names_of_fork_change, names_of_map_change};
+ghost use Rattle.step_wants.specs.Wants.{all_referring, first_names, names_of_fork, names_of, names_of_deed, names_of_end, names_of_fork_change, names_of_map_change};
 
 /// The way to a page has at most four maps and one page.
 pub fn a_way_has_five_names()
@@ -57,7 +59,7 @@ pub fn steps_refer_to_few()
 
 /// A deed refers to five at most.
 pub fn a_deed_refers_to_few()
-    ensures { (s : PlainState) (d : ADeed) → length (names_of_deed s d) ≤ 5 }
+    ensures { (key_of : List ℕ → ℕ) (v : Parts nat_cmp) (d : ADeed) → length (names_of_deed key_of v d) ≤ 5 }
 {}
 
 /// What is in no frame of the maps on a way, and of its page, is the home of one of its names.
@@ -99,11 +101,40 @@ pub fn what_fork_turns_need_is_named()
 
 /// What a task wants are the homes of its names.
 pub fn wants_are_named()
-    ensures { (s : PlainState) (x : Task) (map_home : AForkName → Option ℕ) (page_home : APageName → Option ℕ) (home : ℕ) → list_any (λ h. h == home) (wants map_home page_home s x) ≡ is_named map_home page_home (names_of s x) home }
+    ensures { (key_of : List ℕ → ℕ) (v : Parts nat_cmp) (x : Task) (map_home : AForkName → Option ℕ) (page_home : APageName → Option ℕ) (home : ℕ)
+        → list_any (λ h. h == home) (wants map_home page_home key_of v x) ≡ is_named map_home page_home (names_of key_of v x) home }
 {}
 
-/// A unit wants fewer homes than may be held for a fork, where the forks live in a tree and no other fork's map has a home.
-pub fn a_unit_wants_few()
-    ensures { (s : PlainState) (f : AForkName) (map_home : AForkName → Option ℕ) (page_home : APageName → Option ℕ) → IsTree (tree_of s)
-        → ((g : AForkName) (h : ℕ) → map_home g ≡ Some h → contains_key s.forks g ≡ true) → length (wants map_home page_home s (unit_of f)) < MOST_HELD }
+/// A unit wants fewer homes than may be held for a fork, and a deed fewer than may be held for the console, where the forks are a tree and no map but that of a fork which
+/// lives has a home; and the tables alone tell fewer of a deed.
+pub fn a_task_wants_few()
+    ensures units { (key_of : List ℕ → ℕ) (v : Parts nat_cmp) (f : AForkName) (map_home : AForkName → Option ℕ) (page_home : APageName → Option ℕ)
+        → IsTree v.tree → ((g : AForkName) (h : ℕ) → map_home g ≡ Some h → contains_key v.tree.forks g ≡ true) → length (wants map_home page_home key_of v (unit_of f)) < MOST_HELD }
+    ensures deeds { (key_of : List ℕ → ℕ) (v : Parts nat_cmp) (d : ADeed) (map_home : AForkName → Option ℕ) (page_home : APageName → Option ℕ)
+        → length (wants map_home page_home key_of v (deed_of d)) < MOST_HELD_FOR_CONSOLE }
+    ensures told { (key_of : List ℕ → ℕ) (filed : FilePage ℕ → Option APageName) (forks : ForkMap) (jobs : Jobs) (d : ADeed) (map_home : AForkName → Option ℕ) (page_home : APageName → Option ℕ)
+        → length (told map_home page_home key_of filed forks jobs d) < MOST_HELD_FOR_CONSOLE }
+{}
+
+/// Of a deed but POKE and EXAMINE the tables alone tell all to which it refers.
+pub fn the_tables_tell()
+    ensures { (key_of : List ℕ → ℕ) (v : Parts nat_cmp) (d : ADeed) (map_home : AForkName → Option ℕ) (page_home : APageName → Option ℕ) → IsTold d
+        → wants map_home page_home key_of v (deed_of d) ≡ told map_home page_home key_of (λ at. page_at v.pages (in_file at)) v.tree.forks v.jobs d }
+{}
+
+/// Where a deed needs a page or a map first, that is the home of one of its names.
+pub fn what_deeds_need_is_named()
+    ensures { (key_of : List ℕ → ℕ) (scene : Scene) (v : Parts nat_cmp) (d : ADeed) (map_home : AForkName → Option ℕ) (page_home : APageName → Option ℕ) (home : ℕ)
+        → AreHomed map_home page_home scene → DeedNeeds key_of scene v d home → is_named map_home page_home (names_of_deed key_of v d) home ≡ true }
+{}
+
+/// Where a unit of a fork that lives needs a page or a map first, that is the home of one of its names; and so where the turn of a call does, by its number. No map but that of a
+/// fork which lives has a home, and the files are those of the tables.
+pub fn what_units_need_is_named()
+    ensures units { (tables : ATables) (scene : Scene) (v : Parts nat_cmp) (f : AFork) (map_home : AForkName → Option ℕ) (page_home : APageName → Option ℕ) (home : AHome)
+        → AreHomed map_home page_home scene → ((g : AForkName) (h : ℕ) → map_home g ≡ Some h → contains_key v.tree.forks g ≡ true) → v.files ≡ files_of tables
+        → UnitNeeds tables scene v f (Page home) → is_named map_home page_home (names_of_fork (key_of tables) v f) home.0 ≡ true }
+    ensures calls { (tables : ATables) (scene : Scene) (v : Parts nat_cmp) (who : AForkName) (regs : ARegs) (number : ℕ) (map_home : AForkName → Option ℕ) (page_home : APageName → Option ℕ) (home : AHome)
+        → AreHomed map_home page_home scene → ((g : AForkName) (h : ℕ) → map_home g ≡ Some h → contains_key v.tree.forks g ≡ true) → v.files ≡ files_of tables
+        → CallNeeds tables scene v who regs number (Page home) → is_named map_home page_home (first_names (all_referring (key_of tables)) v who regs number) home.0 ≡ true }
 {}
