@@ -26,4 +26,4 @@ mod CommandDid
 mod Commanded
 mod Sleepers
 mod JobOthers
-mod NeedsFirst
+mod Transfers

@@ -1,5 +1,6 @@
 pub mod JobEvents
 pub mod Systems
+pub mod Transfers
 pub mod Effects
 pub mod Needing
 pub mod Deeds

@@ -42,3 +42,4 @@ mod events;
 mod login;
 mod parts;
 mod running;
+mod transfers;
