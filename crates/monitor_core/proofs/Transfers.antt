@@ -34,4 +34,4 @@ module _ {P : Type 0} (means : PagesMeaning P) (old new : P) where
   }
 
   pub sound_mapped : StaysMapped means old new → (tree : PlainTree) (jobs : List (Option Job)) → AreSound means old tree jobs → AreSound means new tree jobs
-  sound_mapped m tree jobs s = record s { holds = holds_mapped m tree.forks s.holds }
+  sound_mapped m tree jobs s = record { holds = holds_mapped m tree.forks s.holds; job_room = s.job_room; each_fork = s.each_fork; each_job = s.each_job; nobody = s.nobody }

@@ -1,5 +1,5 @@
 // Transfers of pages, and frames that are held, as the pages do them: no step is one.
-ghost use Rattle.std.specs.Prelude.{◌≡◌, ◌↔◌, ◌<◌, ◌≤◌, [], ⊥, length};
+ghost use Rattle.std.specs.Prelude.{◌≡◌, ◌↔◌, ◌<◌, ◌≤◌, [], false, length};
 ghost use Rattle.page_contracts.specs.DrumWords.{DrumWords, Stands};
 ghost use Rattle.page_contracts.specs.Pages.{StaysPlain};
 ghost use Rattle.page_contracts.specs.Stores.{CanFetch, CanKeep, Completes, Evicts, IsFetched, Keeps, LetsGo, Tells, awaited, meeting, most_held};
