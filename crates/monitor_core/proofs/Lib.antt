@@ -26,4 +26,5 @@ mod CommandDid
 mod Commanded
 mod Sleepers
 mod JobOthers
+mod KeptSlots
 mod Transfers

@@ -6,7 +6,7 @@ ghost use Rattle.monitor_calls.specs.Limits.{unit_frames};
 ghost use Rattle.step_shown.specs.Reaching.{EventReaches, Reaches};
 ghost use Rattle.step_shown.specs.Replies.{line_before};
 ghost use Rattle.step_shown.specs.Runners.{IsRunner, told_at};
-ghost use Rattle.monitor_core.specs.Needing.{CanShow};
+ghost use Rattle.turn_forms.specs.Turns.{KeepSlots};
 ghost use Rattle.monitor_core.specs.Systems.{DidAll, IsWithin, Waits};
 
 use crate::system::System;
@@ -76,6 +76,7 @@ impl<P: Pages> System<P> {
         ensures waits { IfErr result (Waits unit_frames self.old self.new) }
         ensures core { P.means.flat ≡ true → IsOk result }
         ensures reach { IfOk result (λ done. Reaches done.reach who.fork self.old.tree self.new.tree) }
+        ensures slots { IfOk result (λ done. KeepSlots self.old.tree.forks self.new.tree.forks) }
         ensures others { OthersStay who.fork.tty self.old.tree.forks self.new.tree.forks }
         ensures some { IfOk result (λ done. 1 ≤ done.count) }
         ensures few { IfOk result (λ done. done.count ≤ most) }

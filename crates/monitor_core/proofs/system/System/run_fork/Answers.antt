@@ -9,6 +9,7 @@ use Rattle.step_shown.specs.declared.reach.Reach.TheVariants.{Job}
 use Rattle.step_shown.specs.Replies.{line_before}
 use Rattle.monitor_calls.proofs.ReachDid.{reaches_others, told_reaches}
 use Rattle.monitor_core.proofs.UnitDid.{did_units, has_job, left_keeps, unheld_left, units_sound, waits_sound, waits_still, waits_unheld}
+use Rattle.monitor_core.proofs.KeptSlots.{kept_slots}
 use Rattle.monitor_core.proofs.system.System.run_fork.Goals as goal
 
 single : (room count : ℕ) → count ≤ room → room ≡ 1 → count ≤ 1
@@ -103,3 +104,16 @@ returns-in-Ok-clause-others g c =
     let own = c.requires.can.trees.slotted.own in
     reaches_others (cond stops Job units.reach) c.args.who.fork c.args.self.now.tree c.tell_where.new.tree own
     (told_reaches units.reach stops c.args.who.fork c.args.self.now.tree c.units_with_call-ran.new.tree c.tell_where.new.tree own c.are_trees.ensures.slotted.own c.in-Ok.ensures.reach c.tell_where.ensures)
+
+pub returns-in-Ok-clause-slots : goal.returns-in-Ok-clause-slots
+returns-in-Ok-clause-slots g c =
+    let m = c.args.self.now in
+    let who = c.args.who in
+    let r = c.requires.can in
+    let f = runner m.tree who r in
+    let units = c.in-Ok.units in
+    let ran = c.in-Ok.ensures.ran (place_of r.fork) r.fork.body (runner_there m.tree who r) in
+    let left = c.units_with_call-ran.new.tree in
+    let told : c.tell_where.new.tree ≡ told_at left who.fork (is_stop units.shown) = c.tell_where.ensures ∙ ap (told_at left who.fork) c.is_stop-stops.ensures in
+    kept_slots m.tree r.trees units.count left.forks c.tell_where.new.tree.forks c.are_trees.ensures.slotted.own ran.leaves.kept
+    (left_keeps m f r.trees (runner_lives m.tree who r) c.units_with_call-ran.new.pages left c.tell_where.new.tree c.units_with_call-ran.new.files c.units_with_call-ran.new.typed.items units ran c.are_trees.ensures told)

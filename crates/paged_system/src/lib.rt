@@ -1,0 +1,8 @@
+//! The system over pages of which a part is in core, as the layer of page waits asks it: units and deeds that are done whole, and whose lists follow; or
+//! what they need first.
+//! To the layer above it is a `System`. Stands on `monitor_core` for what units and deeds do, on `step_wants` for what they refer to, and on `fork_lists`.
+#![tactic(auto)]
+
+mod paged;
+
+pub use paged::Paged;
