@@ -206,9 +206,8 @@ module _ {S L : Type 0} (means : SystemMeaning S) (lists : ListsMeaning L) where
     no_more : (d : DrumWords) → means.fits s d → (wanted : ℕ → List ℕ) (waiting waiting' : ℕ → Option Need) (seat : ℕ) → seat < MOST_HOLDERS → waiting' seat ≡ Some (awaited met) → ((k : ℕ) → k ≢ seat → waiting' k ≡ waiting k) → waiting seat ≡ None → wanted seat ≡ means.wants s d x
         → left MOST_HOLDERS wanted waiting' (means.store.holds s) (means.store.homes s) (means.store.queue s ++ added) ≤ left MOST_HOLDERS wanted waiting (means.store.holds s) (means.store.homes s) (means.store.queue s)
     no_more d fits wanted waiting waiting' seat below own others woke mine =
-        let before = needs.state.each d fits in
         begun_no_more MOST_HOLDERS wanted waiting waiting' (means.store.holds s) (means.store.homes s) (means.store.queue s) added seat (awaited met) own others woke
-        (λ home e. subst (λ ws. has home.0 ws ≡ true) (sym mine) (subst (λ (f : Task → List ℕ). has home.0 (f x) ≡ true) before.wants (needs.wanted d home before.fits (awaited_is need home e))))
+        (λ home e. subst (λ ws. has home.0 ws ≡ true) (sym mine) (needs.wanted d home fits (awaited_is need home e)))
         (nobody waiting' seat below own)
 
     -- so by the tables alone

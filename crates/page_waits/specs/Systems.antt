@@ -93,7 +93,7 @@ pub record Needs {S : Type 0} (means : SystemMeaning S) (x : Task) (old new : S)
   pub stored : StaysPlanned means.store old new
   pub frames : means.store.flat ≡ false
   pub needed : IsNeeded means.store (most_framed x) new need
-  pub wanted : (d : DrumWords) (home : Home) → means.fits new d → need ≡ Page home → has home.0 (means.wants new d x) ≡ true
+  pub wanted : (d : DrumWords) (home : Home) → means.fits old d → need ≡ Page home → has home.0 (means.wants old d x) ≡ true
 
 -- units of a fork are done in a row: over each drum that fits they are legal, the plain state is the one that they leave, and what they show is the reply, which can be given
 pub record DidUnits {S : Type 0} (means : SystemMeaning S) (f : ForkName) (old new : S) (done : Progress) : Type 0 where
