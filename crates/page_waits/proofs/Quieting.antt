@@ -57,7 +57,7 @@ module _ {S L : Type 0} (means : SystemMeaning S) (lists : ListsMeaning L) where
   pub ran_still : (f : ForkName) (done : Progress) (s0 s1 s2 : S) (l0 l1 : L) → Still means lists None None None s0 s1 l0 l1 → Ran means lists f done s1 s2 → Ran means lists f done s0 s2
   ran_still f done s0 s1 s2 l0 l1 still ran = record {
     named = ran.named;
-    gives = ran.gives;
+    shown = ran.shown;
     limit = ran.limit ∙ still.told.limit;
     within = λ n w. ran.within n (still.told.within n w);
     each = λ d fits.
@@ -68,6 +68,7 @@ module _ {S L : Type 0} (means : SystemMeaning S) (lists : ListsMeaning L) where
           subst (λ p. AreLegal true p (row_of f done.count)) same y.1,
           y.2 ∙ ap (λ p. state_after p (row_of f done.count)) same,
           y.3 ∙ ap (λ p. items_of p (row_of f done.count)) same,
+          y.4,
         );
   }
 
@@ -103,7 +104,7 @@ module _ {S L : Type 0} (means : SystemMeaning S) (lists : ListsMeaning L) where
     pub ran_quiet : (f : ForkName) (done : Progress) (j : ℕ) (s0 s1 s2 : S) (l0 l1 : L) (d0 d1 : D) → Quiet means lists held None None None j s0 s1 l0 l1 d0 d1 → Ran means lists f done s1 s2 → RanOver means lists held f done s0 s2 d0 d1
     ran_quiet f done j s0 s1 s2 l0 l1 d0 d1 quiet ran = record {
       named = ran.named;
-      gives = ran.gives;
+      shown = ran.shown;
       within = λ n w. ran.within n (quiet.told.within n w);
       each = λ d st fits.
           let x = quiet.each d st fits in
@@ -115,6 +116,7 @@ module _ {S L : Type 0} (means : SystemMeaning S) (lists : ListsMeaning L) where
             subst (λ p. AreLegal true p (row_of f done.count)) same y.1,
             y.2 ∙ ap (λ p. state_after p (row_of f done.count)) same,
             y.3 ∙ ap (λ p. items_of p (row_of f done.count)) same,
+            y.4,
           );
     }
 

@@ -43,13 +43,13 @@ module _ {S : Type 0} (means : SystemMeaning S) where
   same_then a b c d e k f g = record { fits = g.fits; plain = g.plain ∙ f.plain; wants = g.wants ∙ f.wants }
 
   pub state_nil : (s : S) → StaysState means s s
-  state_nil s = record { told = told_nil s; each = λ d f. record { fits = f; plain = refl; wants = refl }; gives = λ what g. g }
+  state_nil s = record { told = told_nil s; each = λ d f. record { fits = f; plain = refl; wants = refl }; gives = λ d what f g. g }
 
   pub state_then : (a b c : S) → StaysState means a b → StaysState means b c → StaysState means a c
   state_then a b c f g = record {
     told = told_then a b c f.told g.told;
     each = λ d fits. let x = f.each d fits in same_then a b c d d d x (g.each d x.fits);
-    gives = λ what h. g.gives what (f.gives what h);
+    gives = λ d what fits h. g.gives d what (f.each d fits).fits (f.gives d what fits h);
   }
 
 module _ {L : Type 0} (lists : ListsMeaning L) where

@@ -9,6 +9,7 @@ use Rattle.page_contracts.specs.DrumWords.{DrumWords, Stands}
 use Rattle.plain_model.specs.Run.{AreLegal, items_of, state_after}
 use Rattle.event_deeds.specs.declared.deed.Deed.{Deed}
 use Rattle.event_deeds.specs.Deeds.{Task, deed_of, entries_of, unit_of}
+use Rattle.event_deeds.specs.Showings.{FitsShowing}
 use Rattle.step_shown.specs.declared.progress.Progress.{Progress}
 use Rattle.event_deeds.specs.declared.answer.Answer.{Answer}
 use Rattle.event_deeds.specs.declared.answer.Showing.TheVariants as showing
@@ -70,21 +71,22 @@ module _ {S L : Type 0} (means : SystemMeaning S) (lists : ListsMeaning L) where
   -- units of a fork were done in a row: over each drum that fits they are legal, the plain state is the one that they leave, and the reply, which can be given, is what they show
   pub record Ran (f : ForkName) (done : Progress) (s s' : S) : Type 0 where
     pub named : IsForkName f
-    pub gives : means.gives s' (showing.Reply done.reply)
+    pub shown : FitsShowing (showing.Reply done.reply)
     pub limit : means.limit s' ≡ means.limit s
     pub within : (n : ℕ) → means.within s n → means.within s' (n + done.count)
     pub each : (d : DrumWords) → means.fits s d
         → means.fits s' d × AreLegal true (means.plain s d) (row_of f done.count) × (means.plain s' d ≡ state_after (means.plain s d) (row_of f done.count))
-        × (means.items (means.plain s' d) (showing.Reply done.reply) ≡ items_of (means.plain s d) (row_of f done.count))
+        × (means.items (means.plain s' d) (showing.Reply done.reply) ≡ items_of (means.plain s d) (row_of f done.count)) × means.gives s' d (showing.Reply done.reply)
 
   -- the same over what a drum told and tells
   pub record RanOver {D : Type 0} (held : D → Option DrumWords) (f : ForkName) (done : Progress) (s s' : S) (drum drum' : D) : Type 0 where
     pub named : IsForkName f
-    pub gives : means.gives s' (showing.Reply done.reply)
+    pub shown : FitsShowing (showing.Reply done.reply)
     pub within : (n : ℕ) → means.within s n → means.within s' (n + done.count)
     pub each : (d : DrumWords) → Stands means.store.flat (held drum) d → means.fits s d
         → (e : DrumWords) × Stands means.store.flat (held drum') e × means.fits s' e × AreLegal true (means.plain s d) (row_of f done.count)
         × (means.plain s' e ≡ state_after (means.plain s d) (row_of f done.count)) × (means.items (means.plain s' e) (showing.Reply done.reply) ≡ items_of (means.plain s d) (row_of f done.count))
+        × means.gives s' e (showing.Reply done.reply)
 
   -- So many idle entries stand, since no unit can be done: each is legal, where idle entries are judged by this mark, and they leave the plain state as it is.
   pub record IdledOver {D : Type 0} (held : D → Option DrumWords) (auto : Bool) (count : ℕ) (s s' : S) (drum drum' : D) : Type 0 where
@@ -101,14 +103,14 @@ module _ {S L : Type 0} (means : SystemMeaning S) (lists : ListsMeaning L) where
 
   -- a deed was done, over each drum that fits
   pub record DidThere (d : Deed) (answer : Answer) (s s' : S) : Type 0 where
-    pub gives : means.gives s' answer.showing
+    pub shown : FitsShowing answer.showing
     pub limit : means.limit s' ≡ means.limit s
     pub within : (n : ℕ) → means.within s n → means.within s' (n + entries_of d)
     pub each : (over : DrumWords) → means.fits s over → DidAcross means d s s' answer over over
 
   -- a deed was done, over what a drum told and tells
   pub record DidOver {D : Type 0} (held : D → Option DrumWords) (d : Deed) (answer : Answer) (s s' : S) (drum drum' : D) : Type 0 where
-    pub gives : means.gives s' answer.showing
+    pub shown : FitsShowing answer.showing
     pub each : (over : DrumWords) → Stands means.store.flat (held drum) over → means.fits s over
         → (e : DrumWords) × Stands means.store.flat (held drum') e × DidAcross means d s s' answer over e
 

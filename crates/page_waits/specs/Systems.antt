@@ -16,6 +16,7 @@ use Rattle.plain_model.specs.Trees.{PlainTree}
 use Rattle.plain_model.specs.Run.{AreLegal, items_of, state_after}
 use Rattle.event_deeds.specs.declared.deed.Deed.{Deed}
 use Rattle.event_deeds.specs.Deeds.{IsNext, Task, deed, deed_of, entries_of, unit_of}
+use Rattle.event_deeds.specs.Showings.{FitsShowing}
 use Rattle.page_waits.specs.Seats.{UNHELD_FRAMES, has}
 use Rattle.step_shown.specs.declared.progress.Progress.{Progress}
 use Rattle.event_deeds.specs.declared.answer.Answer.{Answer}
@@ -56,8 +57,8 @@ pub record SystemMeaning (S : Type 0) : Type 1 where
   pub within : S → ℕ → Type 0
   -- the items of what is shown, in the state that a deed or units leave
   pub items : PlainState → Showing → List Item
-  -- what is shown can be given: a page that is shown is in a frame
-  pub gives : S → Showing → Type 0
+  -- over the words of a drum what is shown can be given: a page that is shown is in a frame
+  pub gives : S → DrumWords → Showing → Type 0
 
 -- so many units of a fork
 abbrev pub row_of : ForkName → ℕ → List Step
@@ -81,7 +82,7 @@ pub record SameOver {S : Type 0} (means : SystemMeaning S) (old new : S) (d e : 
 pub record StaysState {S : Type 0} (means : SystemMeaning S) (old new : S) : Type 0 where
   pub told : StaysTold means old new
   pub each : (d : DrumWords) → means.fits old d → SameOver means old new d d
-  pub gives : (what : Showing) → means.gives old what → means.gives new what
+  pub gives : (d : DrumWords) (what : Showing) → means.fits old d → means.gives old d what → means.gives new d what
 
 -- the same over what a drum told and tells
 pub record StaysOver {S D : Type 0} (means : SystemMeaning S) (held : D → Option DrumWords) (old new : S) (drum drum' : D) : Type 0 where
@@ -99,9 +100,9 @@ pub record Needs {S : Type 0} (means : SystemMeaning S) (x : Task) (old new : S)
 pub record DidUnits {S : Type 0} (means : SystemMeaning S) (f : ForkName) (old new : S) (done : Progress) : Type 0 where
   pub each : (d : DrumWords) → means.fits old d
       → means.fits new d × AreLegal true (means.plain old d) (row_of f done.count) × (means.plain new d ≡ state_after (means.plain old d) (row_of f done.count))
-      × (means.items (means.plain new d) (showing.Reply done.reply) ≡ items_of (means.plain old d) (row_of f done.count))
+      × (means.items (means.plain new d) (showing.Reply done.reply) ≡ items_of (means.plain old d) (row_of f done.count)) × means.gives new d (showing.Reply done.reply)
   pub named : IsForkName f
-  pub gives : means.gives new (showing.Reply done.reply)
+  pub shown : FitsShowing (showing.Reply done.reply)
   pub limit : means.limit new ≡ means.limit old
   pub within : (n : ℕ) → means.within old n → means.within new (n + done.count)
   pub loses : Loses (traffic means.store old) (traffic means.store new)
@@ -112,12 +113,13 @@ pub record DidAcross {S : Type 0} (means : SystemMeaning S) (d : Deed) (old new 
   pub plain : means.plain new over' ≡ (deed (means.plain old over) d).state
   pub items : means.items (means.plain new over') answer.showing ≡ (deed (means.plain old over) d).items
   pub next : answer.next ≡ (deed (means.plain old over) d).next
+  pub gives : means.gives new over' answer.showing
 
 -- a deed is done, over each drum that fits; what it shows can be given
 pub record DidDeed {S : Type 0} (means : SystemMeaning S) (d : Deed) (old new : S) (answer : Answer) : Type 0 where
   pub each : (over : DrumWords) → means.fits old over → DidAcross means d old new answer over over
   pub next : IfSome answer.next IsNext
-  pub gives : means.gives new answer.showing
+  pub shown : FitsShowing answer.showing
   pub limit : means.limit new ≡ means.limit old
   pub within : (n : ℕ) → means.within old n → means.within new (n + entries_of d)
   pub loses : Loses (traffic means.store old) (traffic means.store new)

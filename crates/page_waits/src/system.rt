@@ -1,6 +1,7 @@
 // The pages, the jobs with their forks, the files and the clock.
 ghost use Rattle.std.specs.Prelude.{◌≡◌, ◌↔◌, ◌<◌, ◌-◌, ◌≤◌, ◌^◌, ℕ, [], false, length, true, Err, IfErr, IfOk, OnErr, OnOk, is_some};
 ghost use Rattle.std.specs.FinMap as map;
+ghost use Rattle.event_deeds.specs.Showings.{FitsShowing};
 ghost use Rattle.event_deeds.specs.Deeds.{FitsDeed, IsTold, Task, deed_of, unit_of};
 ghost use Rattle.event_deeds.specs.declared.deed.Deed.{Deed as ADeed};
 ghost use Rattle.fork_lists.specs.Ties.{AreTied};
@@ -126,14 +127,14 @@ pub trait System {
         requires { IsTerminal t }
         ensures { (d : DrumWords) → means.fits self.now d → result ≡ is_some (map.get (means.plain self.now d).jobs t.0) };
 
-    /// Gives what was shown to a taker, item by item. Fails only where its count of faults rises.
+    /// Gives what was shown to a taker, item by item, over each drum over which it can be given. Fails only where its count of faults rises.
     fn give<T: Taker>(&self, what: &Showing, out: &mut T) -> Result<(), Failed>
-        requires gives { means.gives self.now what.now }
+        requires fits { FitsShowing what.now }
         ensures later { T.fault_count out.old ≤ T.fault_count out.new }
         ensures cause { OnErr result (Rose (T.fault_count out.old) (T.fault_count out.new)) }
         ensures onward { StaysOnward T.onward out.old out.new }
-        ensures ok { OnOk result ((d : DrumWords) → means.fits self.now d → GoesOn T.stands out.old out.new (means.items (means.plain self.now d) what.now) []) }
-        ensures err { OnErr result ((d : DrumWords) → means.fits self.now d → IsCut T.stands T.cut out.old out.new (means.items (means.plain self.now d) what.now) []) };
+        ensures ok { OnOk result ((d : DrumWords) → means.fits self.now d → means.gives self.now d what.now → GoesOn T.stands out.old out.new (means.items (means.plain self.now d) what.now) []) }
+        ensures err { OnErr result ((d : DrumWords) → means.fits self.now d → means.gives self.now d what.now → IsCut T.stands T.cut out.old out.new (means.items (means.plain self.now d) what.now) []) };
 
     /// What holds of each system: its store.
     ghost housed: { (s : Self) → IsHoused means.store s };

@@ -34,7 +34,7 @@ deed_items s e = ap (λ (x : DeedEffect). x.items) (outer_is s e) ∙ sym (ap (�
 
 module _ {S L : Type 0} (means : SystemMeaning S) (lists : ListsMeaning L) {D T : Type 0} (held : D → Option DrumWords) (stands cut : Standing T) (auto : Bool) (e : Event) where
   pub deed_gave : (answer : Answer) (s s' : S) (drum drum' : D) (out out' : T) → DidOver means lists held (ADeed e) answer s s' drum drum'
-      → ((d : DrumWords) → means.fits s' d → GoesOn stands out out' (means.items (means.plain s' d) answer.showing) (Outer e ∷ [])) → Gives means held stands cut auto s s' drum drum' out out' (Outer e ∷ [])
+      → ((d : DrumWords) → means.fits s' d → means.gives s' d answer.showing → GoesOn stands out out' (means.items (means.plain s' d) answer.showing) (Outer e ∷ [])) → Gives means held stands cut auto s s' drum drum' out out' (Outer e ∷ [])
   deed_gave answer s s' drum drum' out out' did given = record {
     each = λ d st fits.
         let y = did.each d st fits in (
@@ -44,17 +44,17 @@ module _ {S L : Type 0} (means : SystemMeaning S) (lists : ListsMeaning L) {D T 
           record {
             legal = (tt, tt);
             state = y.2.plain ∙ deed_state (means.plain s d) e;
-            given = subst (λ is. GoesOn stands out out' is (Outer e ∷ [])) (y.2.items ∙ deed_items (means.plain s d) e) (given y.0 y.2.fits);
+            given = subst (λ is. GoesOn stands out out' is (Outer e ∷ [])) (y.2.items ∙ deed_items (means.plain s d) e) (given y.0 y.2.fits y.2.gives);
           },
         );
   }
 
   pub deed_cut : (answer : Answer) (s s' : S) (drum drum' : D) (out out' : T) → DidOver means lists held (ADeed e) answer s s' drum drum'
-      → ((d : DrumWords) → means.fits s' d → IsCut stands cut out out' (means.items (means.plain s' d) answer.showing) (Outer e ∷ [])) → CutOver means.store.flat means.fits means.plain held stands cut s drum out out' auto (Outer e ∷ [])
+      → ((d : DrumWords) → means.fits s' d → means.gives s' d answer.showing → IsCut stands cut out out' (means.items (means.plain s' d) answer.showing) (Outer e ∷ [])) → CutOver means.store.flat means.fits means.plain held stands cut s drum out out' auto (Outer e ∷ [])
   deed_cut answer s s' drum drum' out out' did given = record {
     each = λ d st fits.
         let y = did.each d st fits in
-        record { legal = (tt, tt); given = subst (λ is. IsCut stands cut out out' is (Outer e ∷ [])) (y.2.items ∙ deed_items (means.plain s d) e) (given y.0 y.2.fits) };
+        record { legal = (tt, tt); given = subst (λ is. IsCut stands cut out out' is (Outer e ∷ [])) (y.2.items ∙ deed_items (means.plain s d) e) (given y.0 y.2.fits y.2.gives) };
   }
 
   -- where so many transfers have ended, which never is

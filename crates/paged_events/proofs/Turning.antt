@@ -40,7 +40,7 @@ idle_items s (suc n) = ap (λ (e : Effect). e.items ++ items_of e.state (replica
 
 module _ {S L : Type 0} (means : SystemMeaning S) (lists : ListsMeaning L) {D T : Type 0} (held : D → Option DrumWords) (stands cut : Standing T) (auto : Bool) where
   pub units_gave : (f : ForkName) (done : Progress) (s s' : S) (drum drum' : D) (out out' : T) → RanOver means lists held f done s s' drum drum'
-      → ((d : DrumWords) → means.fits s' d → GoesOn stands out out' (means.items (means.plain s' d) (showing.Reply done.reply)) (row_of f done.count)) → Gives means held stands cut auto s s' drum drum' out out' (row_of f done.count)
+      → ((d : DrumWords) → means.fits s' d → means.gives s' d (showing.Reply done.reply) → GoesOn stands out out' (means.items (means.plain s' d) (showing.Reply done.reply)) (row_of f done.count)) → Gives means held stands cut auto s s' drum drum' out out' (row_of f done.count)
   units_gave f done s s' drum drum' out out' ran given = record {
     each = λ d st fits.
         let y = ran.each d st fits in (
@@ -50,19 +50,19 @@ module _ {S L : Type 0} (means : SystemMeaning S) (lists : ListsMeaning L) {D T 
           record {
             legal = units_legal true (judged_by means.store.flat auto) (means.plain s d) f done.count y.3;
             state = y.4;
-            given = subst (λ is. GoesOn stands out out' is (row_of f done.count)) y.5 (given y.0 y.2);
+            given = subst (λ is. GoesOn stands out out' is (row_of f done.count)) y.5 (given y.0 y.2 y.6);
           },
         );
   }
 
   pub units_cut : (f : ForkName) (done : Progress) (s s' : S) (drum drum' : D) (out out' : T) → RanOver means lists held f done s s' drum drum'
-      → ((d : DrumWords) → means.fits s' d → IsCut stands cut out out' (means.items (means.plain s' d) (showing.Reply done.reply)) (row_of f done.count)) → CutOver means.store.flat means.fits means.plain held stands cut s drum out out' auto (row_of f done.count)
+      → ((d : DrumWords) → means.fits s' d → means.gives s' d (showing.Reply done.reply) → IsCut stands cut out out' (means.items (means.plain s' d) (showing.Reply done.reply)) (row_of f done.count)) → CutOver means.store.flat means.fits means.plain held stands cut s drum out out' auto (row_of f done.count)
   units_cut f done s s' drum drum' out out' ran given = record {
     each = λ d st fits.
         let y = ran.each d st fits in
         record {
           legal = units_legal true (judged_by means.store.flat auto) (means.plain s d) f done.count y.3;
-          given = subst (λ is. IsCut stands cut out out' is (row_of f done.count)) y.5 (given y.0 y.2);
+          given = subst (λ is. IsCut stands cut out out' is (row_of f done.count)) y.5 (given y.0 y.2 y.6);
         };
   }
 

@@ -1,5 +1,6 @@
 // Steps, given to a taker behind what the last of them shows.
 ghost use Rattle.std.specs.Prelude.{◌≡◌, ◌<◌, ◌≤◌, ◌∷◌, [], OnErr, OnOk, replicate};
+ghost use Rattle.event_deeds.specs.Showings.{FitsShowing};
 ghost use Rattle.machine_names.specs.Bounds.{IsForkName};
 ghost use Rattle.outside.specs.Faults.{Rose};
 ghost use Rattle.page_contracts.specs.DrumWords.{DrumWords};
@@ -32,7 +33,7 @@ fn give_steps<T: Taker>(step: &Step, count: u32, out: &mut T) -> Result<(), Fail
     }
 }
 
-/// Gives so many equal steps, the last of them behind what it shows.
+/// Gives so many equal steps, the last of them behind what it shows, over each drum over which that can be given.
 pub fn give_row<S: System, T: Taker>(
     waits: &Waits<S>,
     step: &Step,
@@ -43,19 +44,19 @@ pub fn give_row<S: System, T: Taker>(
     requires fits { FitsStep step.now }
     requires some { 1 ≤ count }
     requires turn { 1 < count → IsTurn step.now }
-    requires gives { S.means.gives waits.now.system what.now }
+    requires shown { FitsShowing what.now }
     ensures later { T.fault_count out.old ≤ T.fault_count out.new }
     ensures cause { OnErr result (Rose (T.fault_count out.old) (T.fault_count out.new)) }
     ensures onward { StaysOnward T.onward out.old out.new }
-    ensures ok { OnOk result ((d : DrumWords) → S.means.fits waits.now.system d → GoesOn T.stands out.old out.new (S.means.items (S.means.plain waits.now.system d) what.now) (replicate count step.now)) }
-    ensures err { OnErr result ((d : DrumWords) → S.means.fits waits.now.system d → IsCut T.stands T.cut out.old out.new (S.means.items (S.means.plain waits.now.system d) what.now) (replicate count step.now)) }
+    ensures ok { OnOk result ((d : DrumWords) → S.means.fits waits.now.system d → S.means.gives waits.now.system d what.now → GoesOn T.stands out.old out.new (S.means.items (S.means.plain waits.now.system d) what.now) (replicate count step.now)) }
+    ensures err { OnErr result ((d : DrumWords) → S.means.fits waits.now.system d → S.means.gives waits.now.system d what.now → IsCut T.stands T.cut out.old out.new (S.means.items (S.means.plain waits.now.system d) what.now) (replicate count step.now)) }
 {
     give_steps(step, count - 1, out)?;
     waits.give(what, out)?;
     out.step(*step)
 }
 
-/// Gives units of a fork in a row, the last of them behind what it shows.
+/// Gives units of a fork in a row, the last of them behind what it shows, over each drum over which that can be given.
 pub fn give_units<S: System, T: Taker>(
     waits: &Waits<S>,
     row: &Done,
@@ -63,12 +64,12 @@ pub fn give_units<S: System, T: Taker>(
 ) -> Result<(), Failed>
     requires named { IsForkName row.now.fork }
     requires some { 1 ≤ row.now.progress.count }
-    requires gives { S.means.gives waits.now.system (AShowing.Reply row.now.progress.reply) }
+    requires shown { FitsShowing (AShowing.Reply row.now.progress.reply) }
     ensures later { T.fault_count out.old ≤ T.fault_count out.new }
     ensures cause { OnErr result (Rose (T.fault_count out.old) (T.fault_count out.new)) }
     ensures onward { StaysOnward T.onward out.old out.new }
-    ensures ok { OnOk result ((d : DrumWords) → S.means.fits waits.now.system d → GoesOn T.stands out.old out.new (S.means.items (S.means.plain waits.now.system d) (AShowing.Reply row.now.progress.reply)) (row_of row.now.fork row.now.progress.count)) }
-    ensures err { OnErr result ((d : DrumWords) → S.means.fits waits.now.system d → IsCut T.stands T.cut out.old out.new (S.means.items (S.means.plain waits.now.system d) (AShowing.Reply row.now.progress.reply)) (row_of row.now.fork row.now.progress.count)) }
+    ensures ok { OnOk result ((d : DrumWords) → S.means.fits waits.now.system d → S.means.gives waits.now.system d (AShowing.Reply row.now.progress.reply) → GoesOn T.stands out.old out.new (S.means.items (S.means.plain waits.now.system d) (AShowing.Reply row.now.progress.reply)) (row_of row.now.fork row.now.progress.count)) }
+    ensures err { OnErr result ((d : DrumWords) → S.means.fits waits.now.system d → S.means.gives waits.now.system d (AShowing.Reply row.now.progress.reply) → IsCut T.stands T.cut out.old out.new (S.means.items (S.means.plain waits.now.system d) (AShowing.Reply row.now.progress.reply)) (row_of row.now.fork row.now.progress.count)) }
 {
     let step = Step::Unit(row.fork);
     let what = Showing::Reply(row.progress.reply);

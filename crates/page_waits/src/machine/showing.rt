@@ -1,6 +1,7 @@
 // What a machine shows, and what is told of it without a drum.
 ghost use Rattle.std.specs.Prelude.{◌≡◌, ◌≤◌, [], OnErr, OnOk, is_some};
 ghost use Rattle.std.specs.FinMap as map;
+ghost use Rattle.event_deeds.specs.Showings.{FitsShowing};
 ghost use Rattle.fork_tree.specs.Trees.{IsTree};
 ghost use Rattle.machine_names.specs.Bounds.{IsTerminal};
 ghost use Rattle.outside.specs.Faults.{Rose};
@@ -15,14 +16,14 @@ use outside::Failed;
 use script_texts::Taker;
 
 impl<S: System> Machine<S> {
-    /// Gives what was shown to a taker, item by item. Fails only where its count of faults rises.
+    /// Gives what was shown to a taker, item by item, over each drum over which it can be given. Fails only where its count of faults rises.
     pub fn give<T: Taker>(&self, what: &Showing, out: &mut T) -> Result<(), Failed>
-        requires gives { S.means.gives self.now.system what.now }
+        requires fits { FitsShowing what.now }
         ensures later { T.fault_count out.old ≤ T.fault_count out.new }
         ensures cause { OnErr result (Rose (T.fault_count out.old) (T.fault_count out.new)) }
         ensures onward { StaysOnward T.onward out.old out.new }
-        ensures ok { OnOk result ((d : DrumWords) → S.means.fits self.now.system d → GoesOn T.stands out.old out.new (S.means.items (S.means.plain self.now.system d) what.now) []) }
-        ensures err { OnErr result ((d : DrumWords) → S.means.fits self.now.system d → IsCut T.stands T.cut out.old out.new (S.means.items (S.means.plain self.now.system d) what.now) []) }
+        ensures ok { OnOk result ((d : DrumWords) → S.means.fits self.now.system d → S.means.gives self.now.system d what.now → GoesOn T.stands out.old out.new (S.means.items (S.means.plain self.now.system d) what.now) []) }
+        ensures err { OnErr result ((d : DrumWords) → S.means.fits self.now.system d → S.means.gives self.now.system d what.now → IsCut T.stands T.cut out.old out.new (S.means.items (S.means.plain self.now.system d) what.now) []) }
     {
         self.system.give(what, out)
     }

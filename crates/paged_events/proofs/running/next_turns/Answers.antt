@@ -132,8 +132,8 @@ returns-in-Err-clause-outside g c =
 pub turns-requires-clause-within : goal.turns-requires-clause-within
 turns-requires-clause-within g c = c.requires.within (2 ^ 52) (omega arith)
 
-pub give_units-requires-clause-gives : goal.give_units-requires-clause-gives
-give_units-requires-clause-gives g c = (subst (λ (w : Turn). Turned g.S.System.means the_lists g.D.Drum.held c.args.waits.now.auto c.args.waits.now.system c.turns.new.self.system c.args.drum.now c.turns.new.drum w) c.in-Ran.is c.in-Ok.ensures.turned).gives
+pub give_units-requires-clause-shown : goal.give_units-requires-clause-shown
+give_units-requires-clause-shown g c = (subst (λ (w : Turn). Turned g.S.System.means the_lists g.D.Drum.held c.args.waits.now.auto c.args.waits.now.system c.turns.new.self.system c.args.drum.now c.turns.new.drum w) c.in-Ran.is c.in-Ok.ensures.turned).shown
 
 pub give_units-requires-clause-named : goal.give_units-requires-clause-named
 give_units-requires-clause-named g c = (subst (λ (w : Turn). Turned g.S.System.means the_lists g.D.Drum.held c.args.waits.now.auto c.args.waits.now.system c.turns.new.self.system c.args.drum.now c.turns.new.drum w) c.in-Ran.is c.in-Ok.ensures.turned).named

@@ -33,14 +33,14 @@ pub bring_told-requires-clause-within : goal.bring_told-requires-clause-within
 bring_told-requires-clause-within g c = c.requires.within (2 ^ 52) (omega arith)
 
 pub give-requires : goal.give-requires
-give-requires g c = record { gives = c.in-Ok.ensures.did.gives }
+give-requires g c = record { fits = c.in-Ok.ensures.did.shown }
 
 pub returns-in-Ok-give-clause-did : goal.returns-in-Ok-give-clause-did
 returns-in-Ok-give-clause-did g c =
     record {
       each = λ words st fits.
           let y = c.in-Ok.ensures.did.each words st fits in
-          (y.0, y.1, y.2.fits, y.2.plain, subst (λ (items : List Item). GoesOn g.T.Taker.stands c.args.out.now c.give.new.out items []) y.2.items (c.in-Ok-give.ensures.ok y.0 y.2.fits), y.2.next);
+          (y.0, y.1, y.2.fits, y.2.plain, subst (λ (items : List Item). GoesOn g.T.Taker.stands c.args.out.now c.give.new.out items []) y.2.items (c.in-Ok-give.ensures.ok y.0 y.2.fits y.2.gives), y.2.next);
     }
 
 pub returns-in-Err-give-clause-cutoff : goal.returns-in-Err-give-clause-cutoff
@@ -48,7 +48,7 @@ returns-in-Err-give-clause-cutoff g c is =
     record {
       each = λ words st fits.
           let y = c.in-Ok.ensures.did.each words st fits in
-          subst (λ (items : List Item). IsCut g.T.Taker.stands g.T.Taker.cut c.args.out.now c.give.new.out items []) y.2.items (c.in-Err-give.ensures.err y.0 y.2.fits);
+          subst (λ (items : List Item). IsCut g.T.Taker.stands g.T.Taker.cut c.args.out.now c.give.new.out items []) y.2.items (c.in-Err-give.ensures.err y.0 y.2.fits y.2.gives);
     }
 
 pub returns-in-Ok-give-clause-within : goal.returns-in-Ok-give-clause-within

@@ -74,7 +74,7 @@ returns-in-Ok-clause-did g c =
     let left = c.release_left.ensures.state in
     let n = entries_of c.args.deed.now in
     record {
-      gives = left.gives c.in-Ok.answer.showing (told.gives c.in-Ok.answer.showing (gone.gives c.in-Ok.answer.showing did.gives));
+      shown = did.shown;
       limit = left.told.limit ∙ told.told.limit ∙ gone.told.limit ∙ did.limit;
       within = λ k w. left.told.within (k + n) (told.told.within (k + n) (gone.told.within (k + n) (did.within k w)));
       each = λ d fits.
@@ -87,6 +87,7 @@ returns-in-Ok-clause-did g c =
             plain = u.plain ∙ v.plain ∙ z.plain ∙ y.plain;
             items = ap (λ p. g.S.System.means.items p c.in-Ok.answer.showing) (u.plain ∙ v.plain ∙ z.plain) ∙ y.items;
             next = y.next;
+            gives = left.gives d c.in-Ok.answer.showing v.fits (told.gives d c.in-Ok.answer.showing z.fits (gone.gives d c.in-Ok.answer.showing y.fits y.gives));
           };
     }
 

@@ -45,13 +45,13 @@ returns-in-Ok-clause-did g c =
     let state = c.finish-ended.ensures.state in
     record {
       named = did.named;
-      gives = state.gives (showing.Reply c.in-Ok.progress.reply) did.gives;
+      shown = did.shown;
       limit = state.told.limit ∙ did.limit;
       within = λ n w. state.told.within (n + c.in-Ok.progress.count) (did.within n w);
       each = λ d fits.
           let y = did.each d fits in
           let z = state.each d y.0 in
-          (z.fits, y.1, z.plain ∙ y.2, ap (λ p. g.S.System.means.items p (showing.Reply c.in-Ok.progress.reply)) z.plain ∙ y.3);
+          (z.fits, y.1, z.plain ∙ y.2, ap (λ p. g.S.System.means.items p (showing.Reply c.in-Ok.progress.reply)) z.plain ∙ y.3, state.gives d (showing.Reply c.in-Ok.progress.reply) y.0 y.4);
     }
 
 pub returns-in-Ok-clause-bare : goal.returns-in-Ok-clause-bare
