@@ -26,5 +26,6 @@ mod CommandDid
 mod Commanded
 mod Sleepers
 mod JobOthers
+mod NeedsFirst
 mod KeptSlots
 mod Transfers

@@ -1,6 +1,8 @@
 -- What an event of the console needs first, and what of its reply has to be in a frame.
 use Rattle.std.specs.Prelude.{◌≡◌, ℕ, List, None, Some}
+use Rattle.std.specs.FinMap as map
 use Rattle.machine_names.specs.declared.names.FileNo.{FileNo}
+use Rattle.machine_names.specs.declared.names.ForkName.{ForkName}
 use Rattle.machine_names.specs.declared.names.Place.{Place}
 use Rattle.machine_names.specs.declared.names.Place.TheVariants.{File as InFile}
 use Rattle.machine_names.specs.declared.names.Tty.{Tty}
@@ -13,6 +15,8 @@ use Rattle.page_contracts.specs.declared.answers.Need.TheVariants.{Frame}
 use Rattle.plain_files.specs.NamedFiles.{name_of}
 use Rattle.file_tables.specs.Tables.{IsThere}
 use Rattle.console_access.specs.Needing.{IsAwayAt, IsWordAway}
+use Rattle.plain_model.specs.declared.fork.Fork.{Fork}
+use Rattle.monitor_calls.specs.ForkUnit.{Tables, UnitReason, tables_in}
 use Rattle.monitor_calls.specs.Jobs.{job_at}
 use Rattle.monitor_calls.specs.declared.job.Job.{Job}
 use Rattle.step_shown.specs.declared.reply.Reply.{Reply}
@@ -49,3 +53,11 @@ IsInFrames means p at = (d : DrumWords) → means.fits p d → (map_away (means.
 abbrev pub CanShow : {P : Type 0} {b : _} → System P b → Reply → Type 0
 CanShow {P} {b} m (ShowsPage name page) = (f : ℕ) → IsThere m.files f → name_of m.files.dir f ≡ name → IsInFrames b.means m.pages (InFile (record { 0 = f }) page)
 CanShow m reply = Unit {0}
+
+-- all tables of a system
+abbrev pub tables_of : {P : Type 0} {b : _} → System P b → Tables
+tables_of m = tables_in m.tree m.files m.jobs.items m.typed.items m.panel.clock
+
+-- WHAT A UNIT OF A FORK NEEDS FIRST, whatever the drum holds
+abbrev pub ForkNeeds : {P : Type 0} {b : _} → System P b → ForkName → Need → Type 0
+ForkNeeds {P} {b} m name need = (f : Fork) → map.get m.tree.forks name ≡ Some f → UnitReason b.means m.pages (tables_of m) f need

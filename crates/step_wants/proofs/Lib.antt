@@ -17,4 +17,3 @@ mod Channels
 mod Units
 mod DeedsNamed
 mod UnitsNamed
-mod Wanted

@@ -6,7 +6,8 @@ ghost use Rattle.monitor_calls.specs.Limits.{unit_frames};
 ghost use Rattle.step_shown.specs.Reaching.{EventReaches, Reaches};
 ghost use Rattle.step_shown.specs.Replies.{line_before};
 ghost use Rattle.step_shown.specs.Runners.{IsRunner, told_at};
-ghost use Rattle.turn_forms.specs.Turns.{KeepSlots};
+ghost use Rattle.page_contracts.specs.Pages.{MayLose};
+ghost use Rattle.monitor_core.specs.Needing.{CanShow, ForkNeeds};
 ghost use Rattle.monitor_core.specs.Systems.{DidAll, IsWithin, Waits};
 
 use crate::system::System;
@@ -74,6 +75,8 @@ impl<P: Pages> System<P> {
         ensures did { IfOk result (λ done. DidAll self.old self.new (AStep.Unit who.fork) done.count done.reply) }
         ensures shown { IfOk result (λ done. CanShow self.new done.reply) }
         ensures waits { IfErr result (Waits unit_frames self.old self.new) }
+        ensures reason { IfErr result (ForkNeeds self.old who.fork) }
+        ensures loses { IfOk result (λ done. MayLose P.means self.old.pages self.new.pages) }
         ensures core { P.means.flat ≡ true → IsOk result }
         ensures reach { IfOk result (λ done. Reaches done.reach who.fork self.old.tree self.new.tree) }
         ensures slots { IfOk result (λ done. KeepSlots self.old.tree.forks self.new.tree.forks) }

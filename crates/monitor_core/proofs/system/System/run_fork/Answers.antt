@@ -1,6 +1,8 @@
-use Rattle.std.proofs.Common.{◌≡◌, ℕ, ◌≤◌, cond, length, IsSome, is_some, refl, sym, ◌∙◌, ap, subst, arith}
+use Rattle.std.proofs.Common.{◌≡◌, Some, ℕ, ◌≤◌, cond, length, IsSome, is_some, refl, sym, ◌∙◌, ap, subst, arith}
 use Rattle.plain_model.specs.declared.fork.Fork.{Fork}
+use Rattle.monitor_calls.specs.ForkUnit.{UnitReason}
 use Rattle.monitor_calls.specs.Limits.{CanUnit}
+use Rattle.monitor_core.specs.Needing.{tables_of}
 use Rattle.step_shown.specs.Runners.{told_at}
 use Rattle.step_shown.specs.Shown.{is_stop, seen_of}
 use Rattle.monitor_core.proofs.Running.{place_of, runner, runner_lives, runner_only, runner_runs, runner_there}
@@ -117,3 +119,18 @@ returns-in-Ok-clause-slots g c =
     let told : c.tell_where.new.tree ≡ told_at left who.fork (is_stop units.shown) = c.tell_where.ensures ∙ ap (told_at left who.fork) c.is_stop-stops.ensures in
     kept_slots m.tree r.trees units.count left.forks c.tell_where.new.tree.forks c.are_trees.ensures.slotted.own ran.leaves.kept
     (left_keeps m f r.trees (runner_lives m.tree who r) c.units_with_call-ran.new.pages left c.tell_where.new.tree c.units_with_call-ran.new.files c.units_with_call-ran.new.typed.items units ran c.are_trees.ensures told)
+
+pub returns-in-Ok-clause-loses : goal.returns-in-Ok-clause-loses
+returns-in-Ok-clause-loses g c =
+    let m = c.args.self.now in
+    let r = c.requires.can in
+    (c.in-Ok.ensures.ran (place_of r.fork) r.fork.body (runner_there m.tree c.args.who r)).loses
+
+pub returns-in-Err-clause-reason : goal.returns-in-Err-clause-reason
+returns-in-Err-clause-reason g c f there =
+    let m = c.args.self.now in
+    let r = c.requires.can in
+    let waits = c.in-Err.ensures.waits (place_of r.fork) r.fork.body (runner_there m.tree c.args.who r) in
+    let both : Some (runner m.tree c.args.who r) ≡ Some f = sym (runner_lives m.tree c.args.who r) ∙ there in
+    let same : runner m.tree c.args.who r ≡ f = cc both in
+    subst (λ (k : Fork). UnitReason g.P.Pages.means m.pages (tables_of m) k c.in-Err.need) same waits.reason
