@@ -26,7 +26,7 @@ use Rattle.fork_tree.specs.Trees.{AreSlotted, IsTree, Lives}
 use Rattle.fork_tree.proofs.Killing.{killed_last}
 use Rattle.fork_tree.proofs.Leaves.{inferior_is}
 use Rattle.fork_tree.proofs.Upward.{ancestor_lives, any_ancestor}
-use Rattle.job_forks.specs.Holding.{Holds, MakesPages, PlansOnly, parts}
+use Rattle.job_forks.specs.Holding.{Holds, MakesPages, PlansOnly, StaysHomed, parts}
 use Rattle.job_forks.proofs.Places.{fewer_living, one_fewer, others_same}
 
 -- an inferior is younger
@@ -76,11 +76,15 @@ none_made means old new t serials most = record {
   serials = λ u ne. ap (λ (s : Tty → ℕ). s u) serials;
 }
 
+pub homed_still : {P : Type 0} (means : PagesMeaning P) (p : P) → StaysHomed means p p
+homed_still means p = record { maps = λ f. refl; pages = λ n. refl; filed = refl }
+
 -- pages that are as they were
 pub plans_none : {P : Type 0} (means : PagesMeaning P) (old new : P) (t : Tty) → new ≡ old → PlansOnly means t old new
 plans_none means old new t same = record {
   made = none_made means old new t (ap means.serial same) (ap means.most same);
   planned = subst (StaysPlanned means.store old) (sym same) (planned_still means.store old);
+  homed = subst (StaysHomed means old) (sym same) (homed_still means old);
 }
 
 pub made_on : {P : Type 0} (means : PagesMeaning P) (t : Tty) (m n : ℕ) (old mid new : P) → MakesPages means t m old mid → MakesPages means t n mid new → MakesPages means t (m + n) old new

@@ -5,6 +5,7 @@ use Rattle.std.specs.Ordering.{nat_cmp}
 use Rattle.std.specs.FinMap as map
 use Rattle.machine_names.specs.declared.names.Tty.{Tty}
 use Rattle.machine_names.specs.declared.names.ForkName.{ForkName}
+use Rattle.machine_names.specs.declared.names.PageName.{PageName}
 use Rattle.machine_names.specs.declared.names.TheConstants.{MOST_FORKS}
 use Rattle.plain_model.specs.declared.fork.Fork.{Fork}
 use Rattle.plain_model.specs.Forks.{ForkMap, OthersStay, forks_by_slot}
@@ -66,10 +67,17 @@ pub record MakesPages {P : Type 0} (means : PagesMeaning P) (owner : Tty) (pages
   pub serial : means.serial new owner ≤ means.serial old owner + pages
   pub serials : (t : Tty) → t ≢ owner → means.serial new t ≡ means.serial old t
 
--- what a call leaves that needs something first: it made no page, and its plan is no use of one
+-- each map and each page has the home that it had, and files name the pages that they named
+pub record StaysHomed {P : Type 0} (means : PagesMeaning P) (old new : P) : Type 0 where
+  pub maps : (f : ForkName) → means.map_home new f ≡ means.map_home old f
+  pub pages : (n : PageName) → means.page_home new n ≡ means.page_home old n
+  pub filed : means.filed new ≡ means.filed old
+
+-- what a call leaves that needs something first: it made no page, its plan is no use of one, and no home is another's
 pub record PlansOnly {P : Type 0} (means : PagesMeaning P) (owner : Tty) (old new : P) : Type 0 where
   pub made : MakesPages means owner 0 old new
   pub planned : StaysPlanned means.store old new
+  pub homed : StaysHomed means old new
 
 -- what a call of a fork leaves of pages and forks, with so many pages made at most: they go together, each fork lived or is made, that fork and the top forks live
 -- on, and the forks of other jobs are as they were; and what is queued and held may have become less
