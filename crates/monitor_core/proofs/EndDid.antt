@@ -52,6 +52,8 @@ use Rattle.fork_tree.proofs.Slots.{some_of}
 use Rattle.page_contracts.specs.declared.answers.Need.{Need}
 use Rattle.page_contracts.specs.Stores.{IsNeeded, StaysPlanned}
 use Rattle.page_contracts.proofs.Losing.{needed_more}
+use Rattle.job_forks.proofs.Branch.{homed_still}
+use Rattle.job_forks.specs.Holding.{StaysHomed}
 use Rattle.page_contracts.proofs.Planning.{planned_still}
 use Rattle.plain_files.specs.Sizes.{file_at}
 use Rattle.monitor_calls.specs.Sound.{AreSound}
@@ -325,6 +327,8 @@ waits_left {b = b} m m' n files same tree jobs typed panel needed = record {
   };
   most = ap b.means.most same;
   planned = subst (StaysPlanned b.means.store m.pages) (sym same) (planned_still b.means.store m.pages);
+  beside = record { tree = tree; files = files; jobs = jobs; typed = typed; panel = panel };
+  homed = subst (StaysHomed b.means m.pages) (sym same) (homed_still b.means m.pages);
   needed = subst (λ q. IsNeeded b.means.store event_frames q n) (sym same) (needed_more b.means.store 1 event_frames m.pages n (omega arith) needed);
 }
 

@@ -10,6 +10,8 @@ use Rattle.page_contracts.specs.declared.answers.Peeked.{Peeked}
 use Rattle.page_contracts.specs.declared.answers.Peeked.TheVariants.{Absent, Is, NoPage}
 use Rattle.page_contracts.specs.Pages.{Scene, away_or, map_away, page_away, peek_of}
 use Rattle.page_contracts.specs.Stores.{IsNeeded, StaysPlanned}
+use Rattle.job_forks.proofs.Branch.{homed_still}
+use Rattle.job_forks.specs.Holding.{StaysHomed}
 use Rattle.page_contracts.proofs.Planning.{planned_still}
 use Rattle.plain_files.specs.NamedFiles.{name_of}
 use Rattle.plain_model.specs.Trees.{PlainTree}
@@ -39,6 +41,8 @@ module _ {P : Type 0} {b : _} (m m' : System P b) (files : m'.files ≡ m.files)
     };
     most = ap b.means.most same;
     planned = subst (StaysPlanned b.means.store m.pages) (sym same) (planned_still b.means.store m.pages);
+    beside = record { tree = tree; files = files; jobs = jobs; typed = typed; panel = panel };
+    homed = subst (StaysHomed b.means m.pages) (sym same) (homed_still b.means m.pages);
     needed = needed;
   }
 

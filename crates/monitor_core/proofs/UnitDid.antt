@@ -21,7 +21,7 @@ use Rattle.plain_model.specs.Trees.{PlainTree, next_name}
 use Rattle.plain_model.proofs.ForkMaps.{AreOwn}
 use Rattle.fork_tree.specs.Trees.{IsTree, Lives}
 use Rattle.fork_tree.proofs.Slots.{some_of}
-use Rattle.job_forks.specs.Holding.{IsNew}
+use Rattle.job_forks.specs.Holding.{IsNew, StaysHomed}
 use Rattle.job_forks.specs.Limits.{AreWithin}
 use Rattle.job_forks.proofs.Holdings.{holds_same}
 use Rattle.job_forks.proofs.Places.{Keep, keep_itself}
@@ -297,6 +297,8 @@ module _ {P : Type 0} {b : _} (m : System P b) (f : Fork) (trees : IsTree m.tree
       };
       most = ap b.means.most pages_are ∙ waits.unmade.made.most;
       planned = subst (StaysPlanned b.means.store m.pages) (sym pages_are) waits.unmade.planned;
+      beside = record { tree = tree_is ∙ waits.told.tree; files = files_are ∙ waits.told.files; jobs = ap (λ x. x.items) jobs_are; typed = typed_are ∙ waits.told.typed; panel = panel };
+      homed = subst (StaysHomed b.means m.pages) (sym pages_are) waits.unmade.homed;
       needed = subst (λ (x : P). IsNeeded b.means.store unit_frames x n) (sym pages_are) waits.needed;
     }
       where

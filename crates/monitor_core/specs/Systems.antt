@@ -21,6 +21,8 @@ use Rattle.plain_model.specs.Forks.{IsRunnable, runs_in}
 use Rattle.page_contracts.specs.declared.store.TheConstants.{MOST_HELD_FOR_CONSOLE}
 use Rattle.step_shown.specs.declared.reply.Reply.{Reply}
 use Rattle.monitor_core.specs.declared.system.System.{System}
+use Rattle.monitor_core.specs.Transfers.{StaysBeside}
+use Rattle.job_forks.specs.Holding.{StaysHomed}
 use Rattle.monitor_calls.specs.Jobs.{jobs_of}
 use Rattle.step_shown.specs.Replies.{reply_items, FitsReply}
 use Rattle.monitor_calls.specs.Makings.{most_makings}
@@ -89,4 +91,6 @@ pub record Waits {P : Type 0} {b : _} (frames : ℕ) (old new : System P b) (n :
   pub within : (entries : ℕ) → IsWithin old entries → IsWithin new entries
   pub most : b.means.most new.pages ≡ b.means.most old.pages
   pub planned : StaysPlanned b.means.store old.pages new.pages
+  pub beside : StaysBeside old new
+  pub homed : StaysHomed b.means old.pages new.pages
   pub needed : IsNeeded b.means.store frames new.pages n

@@ -7,8 +7,8 @@ use Rattle.monitor_core.specs.declared.system.System.{System}
 pub record StaysBeside {P : Type 0} {b : _} (old new : System P b) : Type 0 where
   pub tree : new.tree ≡ old.tree
   pub files : new.files ≡ old.files
-  pub jobs : new.jobs ≡ old.jobs
-  pub typed : new.typed ≡ old.typed
+  pub jobs : new.jobs.items ≡ old.jobs.items
+  pub typed : new.typed.items ≡ old.typed.items
   pub panel : new.panel ≡ old.panel
 
 -- and so is where each page and each map has its home

@@ -30,6 +30,7 @@ impl<P: Pages> System<P> {
         ensures ends { Completes P.means.store D.fault_count D.read_count D.write_count D.size result self.old.pages self.new.pages drum.old drum.new }
         ensures told { (d : DrumWords) → Stands P.means.flat (D.held drum.old) d → P.means.fits self.old.pages d → (result ≡ Completed.DrumFault → ⊥)
             → (e : DrumWords) × Stands P.means.flat (D.held drum.new) e × P.means.fits self.new.pages e × (P.means.plain self.new.pages e ≡ P.means.plain self.old.pages d) }
+        ensures whole { self.new.pages ≡ self.old.pages → self.new ≡ self.old }
         ensures placed { StaysPlaced self.old self.new }
     {
         self.pages.complete(drum)

@@ -1,6 +1,7 @@
 use Rattle.std.proofs.Common.{refl, arith}
 use Rattle.page_contracts.specs.declared.answers.Need.TheVariants.{Frame}
 use Rattle.page_contracts.proofs.Losing.{needed_more}
+use Rattle.job_forks.proofs.Branch.{homed_still}
 use Rattle.page_contracts.proofs.Planning.{planned_still}
 use Rattle.script_texts.specs.declared.event.Event.TheVariants.{Login}
 use Rattle.script_texts.specs.declared.event.Item.TheVariants.{Refusal}
@@ -26,6 +27,8 @@ returns-in-NeedFrame-clause-waits g c = record {
   within = λ entries w. w;
   most = refl;
   planned = planned_still g.P.Pages.means.store c.args.self.now.pages;
+  beside = record { tree = refl; files = refl; jobs = refl; typed = refl; panel = refl };
+  homed = homed_still g.P.Pages.means c.args.self.now.pages;
   needed = needed_more g.P.Pages.means.store 1 event_frames c.args.self.now.pages Frame (omega arith) (c.in-NeedFrame.ensures.frames refl);
 }
 

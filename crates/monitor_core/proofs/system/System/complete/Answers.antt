@@ -1,4 +1,6 @@
-use Rattle.std.proofs.Common.{refl}
+use Rattle.std.proofs.Common.{◌≡◌, refl, sym, subst}
+use Rattle.std.proofs.Props.{props}
+use Rattle.monitor_calls.specs.Sound.{AreSound}
 use Rattle.monitor_core.proofs.Transfers.{sound_mapped}
 use Rattle.monitor_core.proofs.system.System.complete.Goals as goal
 
@@ -8,3 +10,34 @@ invariant_of-self g c = let m = c.args.self.now in
 
 pub returns-clause-placed : goal.returns-clause-placed
 returns-clause-placed g c = record { beside = record { tree = refl; files = refl; jobs = refl; typed = refl; panel = refl }; mapped = c.complete.ensures.mapped }
+
+pub returns-clause-whole : goal.returns-clause-whole
+returns-clause-whole g c same =
+    let m = c.args.self.now in
+    let means = g.P.Pages.means in
+    let one : IsProp (AreSound means m.pages m.tree m.jobs.items) = hlevel props in
+    subst
+    (λ q. (s : AreSound means q m.tree m.jobs.items) → ◌≡◌ {A = _} (record {
+      pages = q;
+      tree = m.tree;
+      files = m.files;
+      jobs = m.jobs;
+      typed = m.typed;
+      scratch = m.scratch;
+      panel = m.panel;
+      sound = s;
+      unheld = m.unheld;
+      typing_room = m.typing_room;
+    }) m)
+    (sym same) (λ s. λ i. record {
+      pages = m.pages;
+      tree = m.tree;
+      files = m.files;
+      jobs = m.jobs;
+      typed = m.typed;
+      scratch = m.scratch;
+      panel = m.panel;
+      sound = one s m.sound i;
+      unheld = m.unheld;
+      typing_room = m.typing_room;
+    }) _
