@@ -40,7 +40,7 @@ module _ (tree : PlainTree) (trees : IsTree tree) where
   kept_slots count mid new own come keep f g h was is =
       let place : option_map (λ (k : Fork). k.slot) (map.get mid f) ≡ Some h.slot = sym (keep.same f) ∙ ap (option_map (λ (k : Fork). k.slot)) is in
       by (map.get mid f) refl place
-      where
-        by : (o : Option Fork) → map.get mid f ≡ o → option_map (λ (k : Fork). k.slot) o ≡ Some h.slot → h.slot ≡ g.slot
-        by None none there = absurd (cc there)
-        by (Some k) found there = let same : k.slot ≡ h.slot = cc there in sym same ∙ come_slots count mid own come f g k was found
+    where
+      by : (o : Option Fork) → map.get mid f ≡ o → option_map (λ (k : Fork). k.slot) o ≡ Some h.slot → h.slot ≡ g.slot
+      by None none there = absurd (cc there)
+      by (Some k) found there = let same : k.slot ≡ h.slot = cc there in sym same ∙ come_slots count mid own come f g k was found

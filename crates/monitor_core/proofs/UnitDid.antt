@@ -285,8 +285,8 @@ module _ {P : Type 0} {b : _} (m : System P b) (f : Fork) (trees : IsTree m.tree
           let t = waits.told.each d fits.pages in
           let files_same : m'.files ≡ m.files = files_are ∙ waits.told.files in
           let typed_same : m'.typed.items ≡ m.typed.items = typed_are ∙ waits.told.typed in
-          let same : b.means.plain m'.pages d ≡ b.means.plain m.pages d = ap (λ (x : P). b.means.plain x d) pages_are ∙ t.2 in
-          let tree_same = tree_is ∙ t.1 in (
+          let same : b.means.plain m'.pages d ≡ b.means.plain m.pages d = ap (λ (x : P). b.means.plain x d) pages_are ∙ t.1 in
+          let tree_same = tree_is ∙ waits.told.tree in (
             fits_left m m' files_same d (subst (λ (x : P). b.means.fits x d) (sym pages_are) t.0) (ap (λ x. x.files) same) fits,
             λ i. record (state_of m' d) { pages = named (files_same i).dir (same i); files = files_of (files_same i); jobs = jobs_of (open_of (files_same i)) (typed_same i) (jobs_are i).items; forks = (tree_same i).forks; fork_serials = (tree_same i).serials; clock = (panel i).clock; trace = (panel i).trace },
           );

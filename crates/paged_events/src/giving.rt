@@ -11,8 +11,8 @@ ghost use Rattle.script_texts.specs.Limits.{FitsCause, FitsStep};
 ghost use Rattle.script_texts.specs.Taker.{GoesOn, IsCut, StaysOnward};
 ghost use Rattle.script_texts.specs.declared.event.Item.{Item as AnItem};
 
-use outside::Failed;
 use event_deeds::Showing;
+use outside::Failed;
 use page_waits::{Done, Machine as Waits, System};
 use script_texts::{Item, Refusal, Step, Taker};
 

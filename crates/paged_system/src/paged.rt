@@ -23,22 +23,26 @@ impl<P: Pages> Paged<P> {
     {
         self.system.fetch(need)
     }
+
     pub fn complete<D: Drum>(&mut self, drum: &mut D) -> Completed
         requires { P.means.most self.old.system.pages ≤ D.size drum.old }
         ensures ends { Completes store_of D.fault_count D.read_count D.write_count D.size result self.old self.new drum.old drum.new }
     {
         self.system.complete(drum)
     }
+
     pub fn cancelled(&mut self) -> Option<Need>
         ensures tells { Tells store_of result self.old self.new }
     {
         self.system.cancelled()
     }
+
     pub fn evict(&mut self, frame: FrameId)
         ensures evicts { Evicts store_of frame.0 self.old self.new }
     {
         self.system.evict(frame);
     }
+
     pub fn keep(&mut self, holder: u16, home: Home)
         requires can { CanKeep store_of self.old holder home.0 }
         requires holder { holder < MOST_HOLDERS }
@@ -47,6 +51,7 @@ impl<P: Pages> Paged<P> {
     {
         self.system.keep(holder, home);
     }
+
     pub fn let_go(&mut self, holder: u16)
         ensures lets_go { LetsGo store_of holder self.old self.new }
     {

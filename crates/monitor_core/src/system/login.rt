@@ -66,11 +66,7 @@ impl<P: Pages> System<P> {
 
     /// LOGIN: a user gets a job. Busy, where the terminal has one; SerialsOut, where its serials are used up;
     /// Full, where the drum is. Err: its map finds no frame, and nothing is done.
-    pub(crate) fn login(
-        &mut self,
-        t: Tty,
-        user: DirName,
-    ) -> Result<Result<Reply, Refusal>, Need>
+    pub(crate) fn login(&mut self, t: Tty, user: DirName) -> Result<Result<Reply, Refusal>, Need>
         requires terminal { IsTerminal t }
         ensures did { IfOk result (λ done. Did self.old self.new (AStep.Outer (AnEvent.Login t user)) (reply_of done)) }
         ensures shown { IfOk result (λ done. CanShow self.new (reply_of done)) }

@@ -9,8 +9,8 @@ ghost use Rattle.page_contracts.specs.DrumWords.{DrumWords};
 ghost use Rattle.script_texts.specs.Taker.{GoesOn, IsCut, StaysOnward};
 
 use crate::System;
-use event_deeds::Showing;
 use crate::machine::Machine;
+use event_deeds::Showing;
 use machine_names::Tty;
 use outside::Failed;
 use script_texts::Taker;

@@ -99,7 +99,7 @@ returns-in-Err-clause-waits g c =
 pub returns-in-Err-clause-reason : goal.returns-in-Err-clause-reason
 returns-in-Err-clause-reason g c =
     poke_needs _ c.args.t c.args.e c.in-Poke.address c.in-Poke.word c.in-Err.need c.in-Poke.is
-        (record { job = c.in-Some.job; at = ap (λ jobs. job_at jobs c.args.t.0) (put_back c.args.self.now.jobs.items c.args.t.0 c.index_mut.result.now (Some c.in-Some.job) c.index_mut.ensures.value c.in-Some.is) ∙ (job_read c.args.self.now.jobs.items c.args.t.0 _ c.in-Some.job c.args.self.now.sound.job_room c.requires.terminal c.index_mut.ensures.value c.in-Some.is); away = c.in-Err.ensures.reason })
+    (record { job = c.in-Some.job; at = ap (λ jobs. job_at jobs c.args.t.0) (put_back c.args.self.now.jobs.items c.args.t.0 c.index_mut.result.now (Some c.in-Some.job) c.index_mut.ensures.value c.in-Some.is) ∙ (job_read c.args.self.now.jobs.items c.args.t.0 _ c.in-Some.job c.args.self.now.sound.job_room c.requires.terminal c.index_mut.ensures.value c.in-Some.is); away = c.in-Err.ensures.reason })
 
 pub returns-in-Ok-Ok-examined-clause-did : goal.returns-in-Ok-Ok-examined-clause-did
 returns-in-Ok-Ok-examined-clause-did g c =
@@ -123,7 +123,7 @@ returns-in-Err-examined-clause-reason g c =
     let found = some_of (map.get m.tree.forks name) c.in-Err-examined.ensures.there in
     let own : found.0.name ≡ name = c.are_trees.ensures.slotted.own name found.0 found.1 in
     look_needs _ c.args.t c.args.e c.in-Examine.serial c.in-Examine.address c.in-Err-examined.need c.in-Examine.is
-        (subst (λ n. IsWordAway g.P.Pages.means m.pages n c.in-Examine.address c.in-Err-examined.need) own (c.in-Err-examined.ensures.reason found.0 found.1))
+    (subst (λ n. IsWordAway g.P.Pages.means m.pages n c.in-Examine.address c.in-Err-examined.need) own (c.in-Err-examined.ensures.reason found.0 found.1))
 
 pub returns-in-Ok-Ok-clause-others : goal.returns-in-Ok-Ok-clause-others
 returns-in-Ok-Ok-clause-others g c =

@@ -30,8 +30,8 @@ returns-in-Is-clause-did g c =
     let found = c.in-Some.ensures.found in
     did_look m c.args.name.now f c.args.page found.1 (λ n. ShowsPage n c.args.page) (c.requires.name, c.requires.page)
     (λ d fits.
-        let seen = word_seen (g.P.Pages.means.plain m.pages d) (g.P.Pages.means.scene m.pages) (in_file (file_page f c.args.page)) 0 c.in-Is.field-0 (c.in-Is.ensures.told d fits.pages) in
-        page_is_shown m f c.args.page found.0 _ (file_there m.files f found.0) seen.page d fits seen.is)
+    let seen = word_seen (g.P.Pages.means.plain m.pages d) (g.P.Pages.means.scene m.pages) (in_file (file_page f c.args.page)) 0 c.in-Is.field-0 (c.in-Is.ensures.told d fits.pages) in
+    page_is_shown m f c.args.page found.0 _ (file_there m.files f found.0) seen.page d fits seen.is)
 
 pub returns-in-Is-clause-shown : goal.returns-in-Is-clause-shown
 returns-in-Is-clause-shown g c k there is d fits =
