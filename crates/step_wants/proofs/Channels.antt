@@ -1,37 +1,30 @@
 -- The inspection of a fork's channels refers to few pages: the words of all channels stand in two.
-use Rattle.std.proofs.Common.{◌≡◌, ◌⊎◌, inl, inr, ℕ, zero, suc, ◌+◌, ◌*◌, ◌<◌, ◌≤◌, List, [], ◌∷◌, ◌++◌, length, map, filter, Bool, true, false, ◌||◌, cond, Option, None, Some, refl, sym, ◌∙◌, ap, subst, arith, length-append}
+use Rattle.std.proofs.Common.{◌≡◌, ◌⊎◌, inl, inr, ℕ, zero, suc, ◌+◌, ◌<◌, ◌≤◌, List, [], ◌∷◌, ◌++◌, length, map, filter, Bool, true, false, ◌||◌, cond, Option, None, Some, refl, sym, ◌∙◌, ap, subst, arith, length-append}
 use Rattle.std.specs.Prelude.{◌%◌, ◌/◌, ◌^◌, nat_lt, slice_index}
 use Rattle.std.specs.Option.{option_map_or}
 use Rattle.std.proofs.lemmas.Bool.Decides.{nat_tests}
 use Rattle.std.specs.List.{AllByRecursion, range_with_len}
 use Rattle.std.specs.declared.cmp.Ordering.{Ordering}
-use Rattle.word36.specs.Words.{left, right}
-use Rattle.outside.specs.declared.TheConstants.{PAGE_WORDS}
+use Rattle.word36.specs.Words.{right}
 use Rattle.machine_names.specs.declared.names.ForkName.{ForkName}
-use Rattle.machine_names.specs.declared.names.Kind.{Kind}
 use Rattle.machine_names.specs.declared.names.Kind.TheVariants.{Read}
 use Rattle.machine_names.specs.declared.names.PageName.{PageName}
 use Rattle.machine_names.specs.declared.names.Slot.{Slot}
-use Rattle.machine_names.specs.declared.names.Tty.{Tty}
 use Rattle.plain_pages.specs.Maps.{entry_at, maps_on_way}
 use Rattle.plain_pages.specs.PlainPages.{PlainPages}
 use Rattle.plain_pages.specs.References.{Referred, denied, full, granted, in_map, page_at, reference, slot_at}
-use Rattle.plain_units.specs.declared.registers.Regs.{Regs}
-use Rattle.plain_units.specs.Blocks.{steps_on}
-use Rattle.plain_units.specs.Steps.{Asked, Ending, Planned, Progress, begun, done, goes, goes_on, is_accumulator, need, pages_left, plain_asked, plainly, referred, run, stopped, stops, trap, word_taken}
-use Rattle.plain_model.specs.declared.call.End.{End}
+use Rattle.plain_units.specs.Steps.{Asked, Ending, begun, done, goes, goes_on, is_accumulator, plain_asked, plainly, referred, run, word_taken}
 use Rattle.plain_model.specs.declared.call.End.TheVariants.{Done}
 use Rattle.plain_model.specs.declared.fork.Fork.{Fork}
 use Rattle.plain_model.specs.declared.interrupt.Found.{Found}
 use Rattle.plain_model.specs.declared.interrupt.Inspected.{Inspected}
-use Rattle.plain_model.specs.declared.interrupt.Inspected.TheVariants.{Delivers, Forces, Nothing}
-use Rattle.plain_model.specs.declared.interrupt.TheConstants.{CHANNELS}
+use Rattle.plain_model.specs.declared.interrupt.Inspected.TheVariants.{Forces, Nothing}
 use Rattle.plain_model.specs.Calls.{Turn, ends, no_files, stepped}
-use Rattle.plain_model.specs.Inspections.{better, channel_at, chosen, goes_before, inspecting, inspection, inspection_turn, is_wanted, judged, level_at, wanted}
+use Rattle.plain_model.specs.Inspections.{channel_at, chosen, inspecting, inspection_turn, is_wanted, judged, level_at, wanted}
 use Rattle.plain_model.specs.Readings.{Reading, read, with_reading, word_steps, words}
-use Rattle.step_wants.specs.Names.{Housed, a_map, a_page, is_named, names_at, names_of_steps, names_of_turn, names_on_way, none_at_end, page_named, where_granted}
-use Rattle.step_wants.proofs.Away.{named_first, named_more, or_first, or_later}
-use Rattle.step_wants.proofs.Bounded.{ReadsAtMost, TurnAtMost, turn_small}
+use Rattle.step_wants.specs.Names.{Housed, a_map, is_named, names_of_steps, names_of_turn, names_on_way, none_at_end, page_named, where_granted}
+use Rattle.step_wants.proofs.Away.{named_more, or_first, or_later}
+use Rattle.step_wants.proofs.Bounded.{ReadsAtMost, turn_small}
 use Rattle.step_wants.proofs.Few.{page_few}
 use Rattle.step_wants.proofs.FewCalls.{NoneMore, reading_few, word_at_most}
 use Rattle.step_wants.proofs.Keeping.{read_keeps}
@@ -104,14 +97,24 @@ module _ (map_home : ForkName → Option ℕ) (page_home : PageName → Option �
 
     looked_none : (q : PlainPages file_cmp) → Looked q []
     looked_none q = record {
-      first = page_at q (in_map first_slot); last = page_at q (in_map last_slot); at_first = λ n e. e; at_last = λ n e. e; more = []; few = omega arith;
+      first = page_at q (in_map first_slot);
+      last = page_at q (in_map last_slot);
+      at_first = λ n e. e;
+      at_last = λ n e. e;
+      more = [];
+      few = omega arith;
       within = λ h is. absurd (cc is);
     }
 
     -- what is counted by itself
     looked_small : (q : PlainPages file_cmp) (names : List Housed) → IsSmall map_home page_home f.name.tty own owns 2 names → Looked q names
     looked_small q names small = record {
-      first = page_at q (in_map first_slot); last = page_at q (in_map last_slot); at_first = λ n e. e; at_last = λ n e. e; more = small.others; few = small.few;
+      first = page_at q (in_map first_slot);
+      last = page_at q (in_map last_slot);
+      at_first = λ n e. e;
+      at_last = λ n e. e;
+      more = small.others;
+      few = small.few;
       within = λ h is. behind_all (map a_map own) (page_named (page_at q (in_map first_slot))) (page_named (page_at q (in_map last_slot))) small.others h (small.within h is);
     }
 
@@ -129,10 +132,12 @@ module _ (map_home : ForkName → Option ℕ) (page_home : PageName → Option �
     looked_more : (q r : PlainPages file_cmp) (s : Slot) (names : List Housed) → s.fork.tty ≡ f.name.tty → (s ≡ first_slot) ⊎ (s ≡ last_slot)
         → ((t : Slot) (n : PageName) → page_at q (in_map t) ≡ Some n → page_at r (in_map t) ≡ Some n) → Looked r names → Looked q (names_on_way q (in_map s) ++ names)
     looked_more q r s names of_its which keeps looked = record {
-      first = looked.first; last = looked.last;
+      first = looked.first;
+      last = looked.last;
       at_first = λ n e. looked.at_first n (keeps first_slot n e);
       at_last = λ n e. looked.at_last n (keeps last_slot n e);
-      more = looked.more; few = looked.few;
+      more = looked.more;
+      few = looked.few;
       within = λ h is. either (has (names_on_way q (in_map s)) h) (has names h) (sym (named_more map_home page_home h (names_on_way q (in_map s)) names) ∙ is) (λ e. on_way h e) (looked.within h);
     }
       where

@@ -1,6 +1,6 @@
 -- The turn of each call refers to few pages beside the maps of its caller's terminal.
-use Rattle.std.proofs.Common.{◌≡◌, ℕ, zero, suc, ◌+◌, ◌≤◌, List, [], ◌∷◌, ◌++◌, length, Bool, true, false, cond, Option, None, Some, Result, Ok, Err, refl, sym, ◌∙◌, ap, arith}
-use Rattle.std.specs.Prelude.{◌==◌, ◌&&◌, ◌||◌, nat_lt, nat_le, is_some}
+use Rattle.std.proofs.Common.{◌≡◌, ℕ, zero, suc, ◌+◌, ◌≤◌, List, [], ◌∷◌, ◌++◌, Bool, true, false, cond, Option, None, Some, Result, Ok, Err, refl, arith}
+use Rattle.std.specs.Prelude.{◌==◌, ◌&&◌, ◌||◌, nat_lt, nat_le}
 use Rattle.std.specs.Option.{option_and_then, option_map_or}
 use Rattle.std.specs.FinMap as map
 use Rattle.word36.specs.Bytes.{incremented, loaded}
@@ -8,10 +8,8 @@ use Rattle.word36.specs.Words.{bit, left, right}
 use Rattle.machine_names.specs.FileNames.{file_named}
 use Rattle.machine_names.specs.declared.names.ForkName.{ForkName}
 use Rattle.machine_names.specs.declared.names.Kind.{Kind}
-use Rattle.machine_names.specs.declared.names.Kind.TheVariants.{Read, Write}
+use Rattle.machine_names.specs.declared.names.Kind.TheVariants.{Read}
 use Rattle.machine_names.specs.declared.names.Tty.{Tty}
-use Rattle.machine_names.specs.declared.names.TheConstants.{ACCUMULATORS, LAST_SERIAL}
-use Rattle.machine_names.specs.declared.names.Slot.{Slot}
 use Rattle.plain_files.specs.Bytes.{most_bytes}
 use Rattle.plain_files.specs.OpenFiles.{OpenFile, free_jfn}
 use Rattle.plain_units.specs.declared.channel.TheConstants.{ILLEGAL_INSTRUCTION}
@@ -20,7 +18,7 @@ use Rattle.plain_units.specs.Addressing.{address, address_within, indexed, is_in
 use Rattle.plain_units.specs.Blocks.{block_steps, next_address}
 use Rattle.plain_units.specs.Deeds.{in_ac}
 use Rattle.plain_units.specs.Steps.{Steps, refers}
-use Rattle.plain_model.specs.declared.call.TheConstants.{BAD_CODE, BAD_NAME, BAD_POSITION, NO_PAGE, NOT_OPEN, TERMINAL_INPUT, TERMINAL_OUTPUT}
+use Rattle.plain_model.specs.declared.call.TheConstants.{BAD_CODE, BAD_NAME, TERMINAL_INPUT, TERMINAL_OUTPUT}
 use Rattle.plain_model.specs.declared.call.End.{End}
 use Rattle.plain_model.specs.declared.interrupt.TheConstants.{CHANNELS}
 use Rattle.plain_model.specs.declared.call.End.TheVariants as end
@@ -33,15 +31,15 @@ use Rattle.plain_model.specs.declared.call.SleepChange.{SleepChange}
 use Rattle.plain_model.specs.declared.call.SleepChange.TheVariants as sleeps
 use Rattle.plain_model.specs.declared.fork.Fork.{Fork}
 use Rattle.plain_model.specs.ByteCalls as byte
-use Rattle.plain_model.specs.Calls.{Asked, Turn, ends, given, returning, numbered, takes}
-use Rattle.plain_model.specs.ClockCalls.{ClockAsked, clock_calls, disms, runtm, sleep_of, sleeping, time}
+use Rattle.plain_model.specs.Calls.{Asked, Turn, ends, given, returning, numbered}
+use Rattle.plain_model.specs.ClockCalls.{ClockAsked, clock_calls, disms, sleep_of, sleeping}
 use Rattle.plain_model.specs.MapCalls.{is_read, is_written}
-use Rattle.plain_model.specs.FileCalls.{JfnAsked, found_or_made, made_for, jfn_calls, file_calls, taking, of_jfn, openf, closf, rljfn, delf, gtjfn}
+use Rattle.plain_model.specs.FileCalls.{JfnAsked, found_or_made, made_for, jfn_calls, file_calls, taking, gtjfn}
 use Rattle.plain_model.specs.Families.{print_calls}
 use Rattle.plain_model.specs.ForkCalls.{own_named}
-use Rattle.plain_model.specs.InterruptCalls.{ati, debrk, dic, dismissed, dismissed_if, dti, is_bad_code, interrupt_calls, level_to_end, restored, without_level, word_stored}
+use Rattle.plain_model.specs.InterruptCalls.{ati, debrk, dismissed, dismissed_if, dti, is_bad_code, interrupt_calls, level_to_end, restored, without_level, word_stored}
 use Rattle.plain_model.specs.PointedTexts.{address_steps, byte_at, bytes_from, full_pointer, pointing_to, text_at}
-use Rattle.plain_model.specs.Readings.{Reading, read, with_reading, word_steps, words}
+use Rattle.plain_model.specs.Readings.{Reading, read, with_reading, word_steps}
 use Rattle.plain_model.specs.StringCalls as text
 use Rattle.step_wants.proofs.Bounded.{ReadsAtMost, StepsAtMost, TurnAtMost, reading_at_most}
 

@@ -24,7 +24,7 @@ use Rattle.event_deeds.specs.Deeds.{IsTold}
 use Rattle.event_deeds.specs.declared.deed.Deed.{Deed}
 use Rattle.event_deeds.specs.declared.deed.Deed.TheVariants.{Begin, End as EndDeed, Kill, Outer, Typed}
 use Rattle.step_wants.specs.Names.{Housed, a_map, names_on_way, page_named}
-use Rattle.step_wants.specs.Wants.{map_of_fork, names_in_file, names_in_job, names_of_deed, names_of_event, names_seen, names_told, names_told_of_event}
+use Rattle.step_wants.specs.Wants.{map_of_fork, names_in_job, names_of_deed, names_of_event, names_seen, names_told, names_told_of_event}
 use Rattle.step_wants.proofs.Few.{page_few, way_few}
 
 in_job_few : (jobs : Jobs) (t : Tty) (names : PlainJob → List Housed) → ((j : PlainJob) → length (names j) ≤ 5) → length (names_in_job jobs t names) ≤ 5

@@ -1,5 +1,5 @@
 -- The turns of the calls on maps and on forks refer to few pages beside the maps of their caller's terminal.
-use Rattle.std.proofs.Common.{◌≡◌, ℕ, zero, suc, ◌+◌, ◌≤◌, List, [], ◌∷◌, length, map, filter, Bool, true, false, ◌||◌, cond, Option, None, Some, Result, Ok, Err, refl, sym, ◌∙◌, ap, arith}
+use Rattle.std.proofs.Common.{◌≡◌, ℕ, ◌≤◌, List, [], ◌∷◌, map, filter, Bool, true, false, ◌||◌, cond, Option, None, Some, Result, Ok, Err, refl, sym, ◌∙◌, ap, arith}
 use Rattle.std.specs.Prelude.{◌==◌, ◌&&◌, is_some, nat_lt}
 use Rattle.word36.specs.Words.{bit}
 use Rattle.std.specs.Option.{option_map_or}
@@ -25,12 +25,11 @@ use Rattle.plain_model.specs.declared.call.MapChange.{MapChange}
 use Rattle.plain_model.specs.declared.call.MapChange.TheVariants as on_map
 use Rattle.plain_model.specs.declared.fork.Fork.{Fork}
 use Rattle.plain_model.specs.Calls.{Asked, Turn, and_then, ends, given, numbered, returning}
-use Rattle.plain_model.specs.Forks.{ForkMap}
-use Rattle.plain_model.specs.ForkCalls.{address_named, fork_call, fork_calls, fork_named, has_ended, if_inferior, inferior_named, making_in, of_inferior, own_named, rfacs, sfacs, with_accumulators}
+use Rattle.plain_model.specs.ForkCalls.{address_named, fork_call, fork_calls, fork_named, has_ended, if_inferior, inferior_named, making_in, of_inferior, own_named}
 use Rattle.plain_model.specs.Inferiors.{is_inferior}
 use Rattle.plain_model.specs.Trees.{PlainTree, free_slot, next_serial}
-use Rattle.plain_model.specs.MapCalls.{ALL_ONES, MapAsked, MapPlace, access_at, access_wanted, allows, is_counted, is_written, maps, pages_left, from_file, into_file, map_call, map_calls, mapping_into, of_file, of_fork, one_page, place_named, places_named, pmap, rmap, rpacs, slot_named, spacs, unmapping}
-use Rattle.fork_tree.specs.Trees.{IsTree, Lives}
+use Rattle.plain_model.specs.MapCalls.{ALL_ONES, MapAsked, MapPlace, access_at, access_wanted, allows, is_counted, is_written, maps, pages_left, from_file, into_file, map_call, map_calls, mapping_into, of_file, of_fork, one_page, place_named, places_named, slot_named, unmapping}
+use Rattle.fork_tree.specs.Trees.{IsTree}
 use Rattle.fork_tree.proofs.Leaves.{inferior_none, inferior_over}
 use Rattle.step_wants.specs.Names.{Housed, a_map}
 use Rattle.step_wants.specs.Wants.{maps_below, names_of_end, names_of_fork_change, names_of_map_change}
@@ -96,11 +95,16 @@ module _ (a : MapAsked) where
   page_few = chosen (FewMaps 57) (in_ac a.regs 1 == ALL_ONES) _ _ (given_maps (place_named a 2) (unmapping a) unmapping_few) (given_maps (places_named a) _ (λ p. mapping_few p.0 p.1))
 
   pub maps_few : (number : ℕ) → FewMaps 57 (map_call number a)
-  maps_few number = numbered_so (FewMaps 57) map_calls number a (omega arith)
-      (chosen (FewMaps 57) (is_counted a.regs && (pages_left a.regs == 0)) (ends (returning on_map.Nothing a.regs)) (one_page a) (omega arith) page_few,
-      (given_maps (place_named a 1) (access_at a.regs) (access_few a.regs),
-      (given_maps (slot_named a) _ (λ slot. (56, omega arith, λ e. omega arith)),
-      (given_maps (slot_named a) _ (λ slot. (56, omega arith, λ e. (52, omega arith, λ page. omega arith))), tt))))
+  maps_few number = numbered_so (FewMaps 57) map_calls number a (omega arith) (
+    chosen (FewMaps 57) (is_counted a.regs && (pages_left a.regs == 0)) (ends (returning on_map.Nothing a.regs)) (one_page a) (omega arith) page_few,
+    (
+      given_maps (place_named a 1) (access_at a.regs) (access_few a.regs),
+      (
+        given_maps (slot_named a) _ (λ slot. (56, omega arith, λ e. omega arith)),
+        (given_maps (slot_named a) _ (λ slot. (56, omega arith, λ e. (52, omega arith, λ page. omega arith))), tt),
+      ),
+    ),
+  )
 
 -- ---- forks
 
@@ -154,18 +158,37 @@ module _ (a : Asked) (is : IsTree a.tree) where
   ended_few false = tt
 
   pub forks_few : (number : ℕ) → FewForks 57 (fork_call number a)
-  forks_few number = numbered_so (FewForks 57) fork_calls number a tt
-      (option_so (FewForks 57) (free_slot a.tree.forks a.who.tty) (making_in a) (ends (end.Failed FORKS_FULL)) making_few tt,
-      (kill_few,
-      (given_forks (inferior_named a) _ (λ f named. tt),
-      (given_forks (inferior_named a) _ (λ f named. tt),
-      (given_forks (own_named a) _ (λ f named. tt),
-      (given_forks (inferior_named a) _ (λ f named. tt),
-      (given_forks (inferior_named a) _ (λ f named. (16, 41, omega arith, refl, block_at_most 16 (address_named a.regs) Read [] a.regs, λ e. tt)),
-      (given_forks (inferior_named a) _ (λ f named. (16, 41, omega arith, refl, block_at_most 16 (address_named a.regs) Write [] a.regs, λ e. tt)),
-      (given_forks (inferior_named a) _ (λ f named. tt),
-      (given_forks (inferior_named a) _ (λ f named. ended_few (has_ended f.body.status)),
-      (tt, tt)))))))))))
+  forks_few number = numbered_so (FewForks 57) fork_calls number a tt (
+    option_so (FewForks 57) (free_slot a.tree.forks a.who.tty) (making_in a) (ends (end.Failed FORKS_FULL)) making_few tt,
+    (
+      kill_few,
+      (
+        given_forks (inferior_named a) _ (λ f named. tt),
+        (
+          given_forks (inferior_named a) _ (λ f named. tt),
+          (
+            given_forks (own_named a) _ (λ f named. tt),
+            (
+              given_forks (inferior_named a) _ (λ f named. tt),
+              (
+                given_forks (inferior_named a) _ (λ f named. (16, 41, omega arith, refl, block_at_most 16 (address_named a.regs) Read [] a.regs, λ e. tt)),
+                (
+                  given_forks (inferior_named a) _ (λ f named. (16, 41, omega arith, refl, block_at_most 16 (address_named a.regs) Write [] a.regs, λ e. tt)),
+                  (
+                    given_forks (inferior_named a) _ (λ f named. tt),
+                    (
+                      given_forks (inferior_named a) _ (λ f named. ended_few (has_ended f.body.status)),
+                      (tt, tt),
+                    ),
+                  ),
+                ),
+              ),
+            ),
+          ),
+        ),
+      ),
+    ),
+  )
 
 -- ---- what ends refer to
 

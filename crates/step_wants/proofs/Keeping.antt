@@ -1,5 +1,5 @@
 -- A page that is named at a spot is still named there once another is read.
-use Rattle.std.proofs.Common.{◌≡◌, ◌≢◌, ℕ, zero, suc, List, [], ◌∷◌, ◌++◌, Bool, true, false, cond, Option, None, Some, ◌⊎◌, inl, inr, refl, sym, ◌∙◌, ap}
+use Rattle.std.proofs.Common.{◌≡◌, ◌≢◌, ℕ, zero, suc, [], ◌∷◌, ◌++◌, Bool, true, false, cond, Option, None, Some, ◌⊎◌, inl, inr, refl, sym, ◌∙◌, ap}
 use Rattle.std.specs.Prelude.{is_some}
 use Rattle.std.specs.Option.{option_and_then, option_map}
 use Rattle.std.specs.declared.cmp.Ordering.{Ordering}
@@ -13,7 +13,7 @@ use Rattle.plain_pages.specs.declared.map.MapEntry.TheVariants.{Empty, Follows, 
 use Rattle.plain_pages.specs.Maps.{Chain, Entries, behind, chain, chain_from, chain_within, entry_at, followed, full_access, permits, set_entry}
 use Rattle.plain_pages.specs.PlainPages.{PlainPages}
 use Rattle.plain_pages.specs.Room.{HasRoom}
-use Rattle.plain_pages.specs.References.{Making, along_chain, blank, blanks, denied, full, granted, in_map, make, make_all, makings, next_page, page_at, reference}
+use Rattle.plain_pages.specs.References.{along_chain, blank, blanks, denied, granted, in_map, make, make_all, makings, next_page, page_at, reference}
 use Rattle.plain_pages.proofs.Chains.{chain_empty, chain_here, entry_other, slot_tells}
 use Rattle.plain_pages.proofs.Ends.{page_within}
 use Rattle.plain_pages.proofs.ReferencesMade.{make_first, reference_denied, reference_makes, reference_stays, roomy}

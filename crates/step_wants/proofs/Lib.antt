@@ -17,3 +17,4 @@ mod Channels
 mod Units
 mod DeedsNamed
 mod UnitsNamed
+mod Wanted

@@ -1,5 +1,5 @@
 -- The forks of a terminal are few, and no other's map has a home there.
-use Rattle.std.proofs.Common.{◌≡◌, ◌≢◌, ℕ, zero, suc, ◌+◌, ◌<◌, ◌≤◌, List, [], ◌∷◌, length, map, Bool, true, false, cond, Option, None, Some, ◌⊎◌, inl, inr, refl, sym, ◌∙◌, ap, arith}
+use Rattle.std.proofs.Common.{◌≡◌, ◌≢◌, ℕ, zero, suc, ◌+◌, ◌<◌, ◌≤◌, List, [], ◌∷◌, length, map, true, false, Option, None, Some, ◌⊎◌, inl, inr, refl, sym, ◌∙◌, ap, arith}
 use Rattle.std.specs.Prelude.{is_some}
 use Rattle.std.specs.List.{cons_option, filter_map, range_with_len}
 use Rattle.std.specs.FinMap as map_of
@@ -14,7 +14,7 @@ use Rattle.plain_model.specs.Forks.{fork_in, forks_by_slot}
 use Rattle.plain_model.specs.Trees.{PlainTree}
 use Rattle.fork_tree.specs.Trees.{IsTree, Lives}
 use Rattle.fork_tree.proofs.Slots.{in_found}
-use Rattle.step_wants.specs.Names.{Housed, a_map, is_named}
+use Rattle.step_wants.specs.Names.{a_map, is_named}
 use Rattle.step_wants.proofs.Away.{named_behind, named_first}
 use Rattle.step_wants.proofs.Small.{AreAll}
 

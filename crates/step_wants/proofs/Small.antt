@@ -1,8 +1,7 @@
 -- Names that are maps of the forks of one terminal, but for so many.
-use Rattle.std.proofs.Common.{◌≡◌, ℕ, zero, suc, ◌+◌, ◌≤◌, List, [], ◌∷◌, ◌++◌, length, map, Bool, true, false, ◌||◌, cond, Option, None, Some, refl, sym, ◌∙◌, ap, arith, length-append, append_assoc}
+use Rattle.std.proofs.Common.{◌≡◌, ℕ, zero, suc, ◌+◌, ◌≤◌, List, [], ◌∷◌, ◌++◌, length, map, Bool, true, false, ◌||◌, Option, None, Some, refl, sym, ◌∙◌, ap, arith, length-append}
 use Rattle.std.specs.Prelude.{◌==◌}
-use Rattle.std.specs.List.{cons_option, filter_map, list_any}
-use Rattle.std.specs.Option.{option_map_or}
+use Rattle.std.specs.List.{cons_option, list_any}
 use Rattle.std.specs.declared.cmp.Ordering.{Ordering}
 use Rattle.std.proofs.lemmas.Bool.Decides.{nat_tests}
 use Rattle.machine_names.specs.declared.names.ForkName.{ForkName}
@@ -13,9 +12,9 @@ use Rattle.plain_pages.specs.declared.map.MapEntry.{MapEntry}
 use Rattle.plain_pages.specs.declared.map.MapEntry.TheVariants.{Empty, Follows, Names}
 use Rattle.plain_pages.specs.Maps.{Entries, entry_at, followed, maps_from, maps_on_way, maps_within}
 use Rattle.plain_pages.specs.PlainPages.{PlainPages}
-use Rattle.plain_pages.specs.References.{Spot, in_file, in_map, page_at}
-use Rattle.step_wants.specs.Names.{Housed, a_map, a_page, home_for, homes_for, is_named, maps_to, names_on_way, page_named}
-use Rattle.step_wants.proofs.Away.{named_behind, named_first, named_more, or_first, or_later}
+use Rattle.plain_pages.specs.References.{in_map, page_at}
+use Rattle.step_wants.specs.Names.{Housed, a_map, home_for, homes_for, is_named, names_on_way, page_named}
+use Rattle.step_wants.proofs.Away.{named_more, or_first, or_later}
 use Rattle.step_wants.proofs.Few.{page_few}
 
 module _ (map_home : ForkName → Option ℕ) (page_home : PageName → Option ℕ) where

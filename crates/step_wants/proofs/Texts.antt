@@ -1,5 +1,5 @@
 -- What the reading of a turn needs first is the home of one of the turn's names.
-use Rattle.std.proofs.Common.{◌≡◌, ℕ, List, [], ◌++◌, Bool, true, Option, ◌∙◌, ap, refl, sym}
+use Rattle.std.proofs.Common.{◌≡◌, ℕ, List, [], ◌++◌, true, Option, ◌∙◌, ap, refl}
 use Rattle.std.specs.Prelude.{slice_index}
 use Rattle.std.specs.Ordering.{nat_cmp}
 use Rattle.machine_names.specs.declared.names.ForkName.{ForkName}
@@ -9,7 +9,7 @@ use Rattle.page_contracts.specs.declared.answers.Need.{Need}
 use Rattle.page_contracts.specs.declared.answers.Need.TheVariants as need
 use Rattle.plain_pages.specs.PlainPages.{NumberedPages}
 use Rattle.plain_units.specs.declared.registers.Regs.{Regs}
-use Rattle.plain_units.specs.Steps.{Ending, Planned, Steps, begun, call, done, need as needs, pages_left, run, stopped, trap}
+use Rattle.plain_units.specs.Steps.{Ending, Planned, begun, call, done, need as needs, pages_left, stopped, trap}
 use Rattle.plain_units.specs.Blocks.{steps_on}
 use Rattle.plain_model.specs.Calls.{Sight, Turn, stepped}
 use Rattle.plain_model.specs.Readings.{Reading, read, with_reading, words}
@@ -17,7 +17,7 @@ use Rattle.plain_model.specs.declared.call.End.{End}
 use Rattle.ka10_unit.specs.Gathers.{Framed, asks}
 use Rattle.ka10_unit.specs.Taking.{Plan, run_over}
 use Rattle.ka10_unit.proofs.Plainly.{plain_of}
-use Rattle.text_pointers.specs.Outcomes.{Outcome, goes_on, leaves, read_over, reads, stops}
+use Rattle.text_pointers.specs.Outcomes.{Outcome, goes_on, read_over, reads, stops}
 use Rattle.step_wants.specs.Names.{Housed, is_named, names_of_steps, names_of_turn}
 use Rattle.step_wants.specs.Naming.{AreHomed}
 use Rattle.step_wants.proofs.Stepping.{steps_named}

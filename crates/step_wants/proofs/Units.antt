@@ -1,5 +1,5 @@
 -- A unit refers to few pages beside the maps of its terminal's forks.
-use Rattle.std.proofs.Common.{◌≡◌, ℕ, zero, suc, ◌+◌, ◌<◌, ◌≤◌, List, [], ◌∷◌, ◌++◌, length, map, Bool, true, false, cond, Option, None, Some, refl, sym, ◌∙◌, ap, subst, arith, length-append}
+use Rattle.std.proofs.Common.{◌≡◌, ℕ, ◌+◌, ◌<◌, ◌≤◌, List, [], ◌∷◌, ◌++◌, length, map, Bool, true, false, cond, Option, None, Some, refl, sym, ap, subst, arith, length-append}
 use Rattle.std.proofs.lemmas.List.{length-map}
 use Rattle.std.specs.Prelude.{nat_eq}
 use Rattle.std.specs.Set.{unique_keys}
@@ -18,14 +18,12 @@ use Rattle.plain_model.specs.declared.call.End.TheVariants as end
 use Rattle.plain_model.specs.declared.fork.Fork.{Fork}
 use Rattle.plain_model.specs.declared.interrupt.Inspected.{Inspected}
 use Rattle.plain_model.specs.declared.interrupt.Inspected.TheVariants.{Delivers, Forces, Nothing}
-use Rattle.plain_model.specs.Calls.{Sight, Turn, is_among, no_files, numbered}
-use Rattle.plain_model.specs.EachFamily.{Family, bytes, filing, forking, interrupting, mapping, opening, printing, strings, timing}
+use Rattle.plain_model.specs.Calls.{Sight, Turn, no_files}
 use Rattle.plain_model.specs.Families.{Parts, asks, asks_bytes, asks_clock, asks_jfns, asks_maps}
 use Rattle.plain_model.specs.Inspections.{inspected, inspected_by, inspection_turn, is_interrupted}
-use Rattle.plain_model.specs.Trees.{PlainTree}
 use Rattle.fork_tree.specs.Trees.{IsTree}
-use Rattle.step_wants.specs.Names.{Housed, a_map, homes_for, is_named, names_of_steps, names_of_turn, none_at_end}
-use Rattle.step_wants.specs.Wants.{Referring, all_referring, first_names, names_behind, names_of_call, names_of_end, names_of_fork_change, names_of_inspection, names_of_instruction, names_of_map_change, names_of_unit, none_more, referring}
+use Rattle.step_wants.specs.Names.{Housed, a_map, homes_for, names_of_steps, names_of_turn, none_at_end}
+use Rattle.step_wants.specs.Wants.{Referring, all_referring, first_names, names_behind, names_of_call, names_of_end, names_of_fork_change, names_of_inspection, names_of_instruction, names_of_map_change, names_of_unit}
 use Rattle.step_wants.proofs.Again.{instruction_last}
 use Rattle.step_wants.proofs.Bounded.{TurnAtMost, capped_small, turn_small}
 use Rattle.step_wants.proofs.Channels.{inspection_small}
@@ -74,16 +72,31 @@ module _ (map_home : ForkName → Option ℕ) (page_home : PageName → Option �
 
     all_small : (regs : Regs) (number : ℕ) → Small 57 (first_names (all_referring key_of) v who regs number)
     unfolding AllSmall
-    all_small regs number = first_small regs number (all_referring key_of)
-        (plain_turn _ _ (prints_few who.tty regs number),
-        (turn_small map_home page_home who.tty own owns no_files (names_of_end (names_of_fork_change v.tree.forks)) (KillsIn who.tty) (fork_end_small map_home page_home who.tty own owns v.tree is) 57 _ v.pages (forks_few (asks v who regs) is number),
-        (plain_turn _ _ (interrupts_few (asks v who regs) number),
-        (plain_turn _ _ (clock_few who.tty (asks_clock v who regs) number),
-        (turn_small map_home page_home who.tty own owns _ (names_of_end names_of_map_change) OneMore (map_end_small map_home page_home who.tty own owns) 57 _ v.pages (maps_few (asks_maps v who regs) number),
-        (plain_turn _ _ (errors_few (asks v who regs) number),
-        (plain_turn _ _ (jfns_few (asks_jfns v who regs) number),
-        (plain_turn _ _ (bytes_few (asks_bytes key_of v who regs) number),
-        (plain_turn _ _ (strings_few (asks_bytes key_of v who regs) number), tt)))))))))
+    all_small regs number = first_small regs number (all_referring key_of) (
+      plain_turn _ _ (prints_few who.tty regs number),
+      (
+        turn_small map_home page_home who.tty own owns no_files (names_of_end (names_of_fork_change v.tree.forks)) (KillsIn who.tty) (fork_end_small map_home page_home who.tty own owns v.tree is) 57 _ v.pages (forks_few (asks v who regs) is number),
+        (
+          plain_turn _ _ (interrupts_few (asks v who regs) number),
+          (
+            plain_turn _ _ (clock_few who.tty (asks_clock v who regs) number),
+            (
+              turn_small map_home page_home who.tty own owns _ (names_of_end names_of_map_change) OneMore (map_end_small map_home page_home who.tty own owns) 57 _ v.pages (maps_few (asks_maps v who regs) number),
+              (
+                plain_turn _ _ (errors_few (asks v who regs) number),
+                (
+                  plain_turn _ _ (jfns_few (asks_jfns v who regs) number),
+                  (
+                    plain_turn _ _ (bytes_few (asks_bytes key_of v who regs) number),
+                    (plain_turn _ _ (strings_few (asks_bytes key_of v who regs) number), tt),
+                  ),
+                ),
+              ),
+            ),
+          ),
+        ),
+      ),
+    )
 
     call_small : (f : Fork) → f.name ≡ who → (x : Planned file_cmp ⊥) → Small 57 (names_of_call key_of v f x)
     call_small f same (call number) = subst (λ (name : ForkName). Small 57 (first_names (all_referring key_of) v name f.body.regs number)) (sym same) (all_small f.body.regs number)

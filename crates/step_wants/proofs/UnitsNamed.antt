@@ -1,5 +1,5 @@
 -- What a unit needs first is the home of one of its names.
-use Rattle.std.proofs.Common.{◌≡◌, ◌⊎◌, inl, inr, ⊎_elim, ℕ, List, [], ◌∷◌, ◌++◌, Bool, true, false, ◌||◌, cond, Option, None, Some, refl, sym, ◌∙◌, ap, subst}
+use Rattle.std.proofs.Common.{◌≡◌, ⊎_elim, ℕ, List, [], Bool, true, false, cond, Option, None, Some, refl, sym, ◌∙◌, ap, subst}
 use Rattle.std.specs.Option.{option_and_then, option_map_or}
 use Rattle.std.specs.Ordering.{nat_cmp}
 use Rattle.std.specs.FinMap as map_of
@@ -7,25 +7,22 @@ use Rattle.machine_names.specs.FileNames.{file_named}
 use Rattle.machine_names.specs.declared.names.ForkName.{ForkName}
 use Rattle.machine_names.specs.declared.names.PageName.{PageName}
 use Rattle.page_homes.specs.declared.homes.Home.{Home}
-use Rattle.page_contracts.specs.declared.answers.Need.{Need}
 use Rattle.page_contracts.specs.declared.answers.Need.TheVariants.{Page}
 use Rattle.page_contracts.specs.Pages.{Scene}
-use Rattle.plain_pages.specs.PlainPages.{NumberedPages}
 use Rattle.plain_units.specs.declared.registers.Regs.{Regs}
 use Rattle.plain_units.specs.Deeds.{in_ac}
 use Rattle.plain_units.specs.Instructions.{instruction}
-use Rattle.plain_units.specs.Steps.{Planned, begun, call, need, stopped}
+use Rattle.plain_units.specs.Steps.{Planned, begun}
 use Rattle.plain_units.specs.Units.{unit_on}
 use Rattle.plain_model.specs.declared.call.End.{End}
 use Rattle.plain_model.specs.declared.call.End.TheVariants as end
-use Rattle.plain_model.specs.declared.call.TheConstants.{BAD_NAME, GTJFN}
+use Rattle.plain_model.specs.declared.call.TheConstants.{BAD_NAME}
 use Rattle.plain_model.specs.declared.fork.Fork.{Fork}
 use Rattle.plain_model.specs.declared.interrupt.Inspected.{Inspected}
-use Rattle.plain_model.specs.declared.interrupt.Inspected.TheVariants.{Nothing}
 use Rattle.plain_model.specs.ByteCalls.{byte_call, byte_calls}
 use Rattle.plain_model.specs.Calls.{Sight, Turn, ends, is_among, no_files, numbered}
 use Rattle.plain_model.specs.ClockCalls.{clock_calls}
-use Rattle.plain_model.specs.EachFamily.{bytes, filing, forking, interrupting, mapping, opening, printing, strings, timing}
+use Rattle.plain_model.specs.EachFamily.{bytes, filing, mapping, opening, printing, strings, timing}
 use Rattle.plain_model.specs.Families.{Parts, asks, asks_bytes, asks_jfns, asks_maps, print_calls}
 use Rattle.plain_model.specs.FileCalls.{file_calls, jfn_calls, taking}
 use Rattle.plain_model.specs.ForkCalls.{fork_call, fork_calls}
@@ -34,8 +31,6 @@ use Rattle.plain_model.specs.InterruptCalls.{interrupt_calls}
 use Rattle.plain_model.specs.MapCalls.{map_call, map_calls}
 use Rattle.plain_model.specs.PointedTexts.{text_at}
 use Rattle.plain_model.specs.StringCalls.{string_call, string_calls}
-use Rattle.ka10_unit.specs.Gathers.{Framed}
-use Rattle.ka10_unit.specs.Planning.{unit_over}
 use Rattle.call_turns.specs.declared.family.CallFamily.{CallFamily}
 use Rattle.call_turns.specs.declared.family.CallFamily.TheVariants as family
 use Rattle.call_turns.specs.Families.{family_of, if_has}
@@ -45,7 +40,7 @@ use Rattle.file_tables.specs.Tables.{files_of}
 use Rattle.monitor_calls.specs.Reasons.{CallNeeds, FamilyNeeds, InspectionNeeds, InstructionNeeds, NeedsIf, UnitNeeds, framed_in}
 use Rattle.step_wants.specs.Names.{Housed, is_named, names_of_steps, names_of_turn, none_at_end}
 use Rattle.step_wants.specs.Naming.{AreHomed}
-use Rattle.step_wants.specs.Wants.{Referring, all_referring, first_names, names_behind, names_of_call, names_of_end, names_of_fork, names_of_fork_change, names_of_inspection, names_of_instruction, names_of_map_change}
+use Rattle.step_wants.specs.Wants.{all_referring, first_names, names_behind, names_of_call, names_of_end, names_of_fork, names_of_fork_change, names_of_inspection, names_of_instruction, names_of_map_change}
 use Rattle.step_wants.proofs.Families.{bytes_named, forks_named, interrupts_named, maps_named, strings_named}
 use Rattle.step_wants.proofs.Stepping.{steps_named}
 use Rattle.step_wants.proofs.Texts.{reading_named}

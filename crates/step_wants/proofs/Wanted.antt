@@ -1,5 +1,5 @@
 -- What is needed first is wanted.
-use Rattle.std.proofs.Common.{◌≡◌, ◌⊎◌, inl, inr, ℕ, List, [], Bool, true, false, Option, Some, refl, sym, ◌∙◌, ap}
+use Rattle.std.proofs.Common.{◌≡◌, inr, ℕ, List, [], Bool, true, false, Option, Some, ◌∙◌, ap}
 use Rattle.std.specs.Prelude.{◌==◌}
 use Rattle.std.specs.List.{list_any}
 use Rattle.std.specs.Option.{option_map_or}
@@ -20,7 +20,7 @@ use Rattle.monitor_calls.specs.declared.row.Last.TheVariants.{Calls}
 use Rattle.monitor_calls.specs.Reasons.{CallNeeds, NeedsIf, StopsIf, UnitNeeds, UnitStops, framed_in}
 use Rattle.event_deeds.specs.Deeds.{Task, unit_of}
 use Rattle.step_wants.specs.Homes.{wants}
-use Rattle.step_wants.specs.Names.{Housed, homes_for, is_named}
+use Rattle.step_wants.specs.Names.{homes_for, is_named}
 use Rattle.step_wants.specs.Naming.{AreHomed}
 use Rattle.step_wants.specs.Wants.{names_of, names_of_fork}
 use Rattle.step_wants.proofs.Once.{has_once}

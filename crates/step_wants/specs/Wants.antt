@@ -156,15 +156,15 @@ module _ {K : Type 0} {file_cmp : K → K → Ordering} where
     abbrev pub names_of_event : Parts file_cmp → Event → List Housed
     names_of_event v (Poke t address word) = names_in_job v.jobs t (λ j. names_seen v.pages j.top address)
     names_of_event v (Examine t serial address) = names_seen v.pages (record { tty = t; serial = serial }) address
-    names_of_event v (Words name page offset row) = names_in_file (λ at. page_at v.pages (in_file at)) name page
-    names_of_event v (Page name page) = names_in_file (λ at. page_at v.pages (in_file at)) name page
+    names_of_event v (Words name page offset row) = names_in_file key_of (λ at. page_at v.pages (in_file at)) name page
+    names_of_event v (Page name page) = names_in_file key_of (λ at. page_at v.pages (in_file at)) name page
     names_of_event v e = []
 
     -- A DEED refers to these
     abbrev pub names_of_deed : Parts file_cmp → Deed → List Housed
     names_of_deed v (Outer e) = names_of_event v e
     names_of_deed v (Typed t c) = []
-    names_of_deed v (Begin t name) = names_in_file (λ at. page_at v.pages (in_file at)) name 0
+    names_of_deed v (Begin t name) = names_in_file key_of (λ at. page_at v.pages (in_file at)) name 0
     names_of_deed v (Kill t purpose) = names_in_job v.jobs t (λ j. map_of_fork (last_below v.tree.forks j.top))
     names_of_deed v (EndDeed t purpose) = names_in_job v.jobs t (λ j. a_map j.top ∷ [])
 
@@ -177,14 +177,14 @@ module _ {K : Type 0} {file_cmp : K → K → Ordering} where
 
 module _ {K : Type 0} (key_of : List ℕ → K) where
   abbrev pub names_told_of_event : (FilePage K → Option PageName) → Event → List Housed
-  names_told_of_event filed (Words name page offset row) = names_in_file filed name page
-  names_told_of_event filed (Page name page) = names_in_file filed name page
+  names_told_of_event filed (Words name page offset row) = names_in_file key_of filed name page
+  names_told_of_event filed (Page name page) = names_in_file key_of filed name page
   names_told_of_event filed e = []
 
   -- WHAT THE TABLES TELL A DEED REFERS TO, by which pages are those of files, the forks and the jobs
   abbrev pub names_told : (FilePage K → Option PageName) → ForkMap → Jobs → Deed → List Housed
   names_told filed forks jobs (Outer e) = names_told_of_event filed e
   names_told filed forks jobs (Typed t c) = []
-  names_told filed forks jobs (Begin t name) = names_in_file filed name 0
+  names_told filed forks jobs (Begin t name) = names_in_file key_of filed name 0
   names_told filed forks jobs (Kill t purpose) = names_in_job jobs t (λ j. map_of_fork (last_below forks j.top))
   names_told filed forks jobs (EndDeed t purpose) = names_in_job jobs t (λ j. a_map j.top ∷ [])

@@ -2,7 +2,7 @@
 ghost use Rattle.std.specs.Prelude.{◌==◌, ◌<◌, ◌≡◌, ◌+◌, ◌*◌, ◌≤◌, ℕ, Option, Some, List, length, true};
 ghost use Rattle.std.specs.List.{list_any};
 ghost use Rattle.std.specs.Ordering.{nat_cmp};
-ghost use Rattle.std.specs.FinMap.{contains_key};
+ghost use Rattle.std.specs.FinMap.{contains_key, get};
 ghost use Rattle.machine_names.specs.Orders.{FilePage, name_cmp};
 ghost use Rattle.machine_names.specs.declared.names.ForkName.{ForkName as AForkName};
 ghost use Rattle.machine_names.specs.declared.names.PageName.{PageName as APageName};
@@ -31,7 +31,8 @@ ghost use Rattle.file_calls.specs.Asking.{names_of as names_told};
 ghost use Rattle.file_calls.specs.Turning.{TextNeeds};
 ghost use Rattle.file_tables.specs.Keys.{key_of, seen_in};
 ghost use Rattle.file_tables.specs.Tables.{files_of};
-ghost use Rattle.monitor_calls.specs.Reasons.{CallNeeds, UnitNeeds};
+ghost use Rattle.monitor_calls.specs.Reasons.{CallNeeds, UnitNeeds, UnitStops, framed_in};
+ghost use Rattle.monitor_calls.specs.declared.row.Last.TheVariants.{Calls};
 ghost use Rattle.plain_model.specs.declared.fork.Fork.{Fork as AFork};
 ghost use Rattle.file_tables.specs.declared.tables.FileTables.{FileTables as ATables};
 ghost use Rattle.fork_tree.specs.Trees.{IsTree};
@@ -137,4 +138,21 @@ pub fn what_units_need_is_named()
     ensures calls { (tables : ATables) (scene : Scene) (v : Parts nat_cmp) (who : AForkName) (regs : ARegs) (number : ℕ) (map_home : AForkName → Option ℕ) (page_home : APageName → Option ℕ) (home : AHome)
         → AreHomed map_home page_home scene → ((g : AForkName) (h : ℕ) → map_home g ≡ Some h → contains_key v.tree.forks g ≡ true) → v.files ≡ files_of tables
         → CallNeeds tables scene v who regs number (Page home) → is_named map_home page_home (first_names (all_referring (key_of tables)) v who regs number) home.0 ≡ true }
+{}
+
+/// What is needed first is wanted: by a unit of a fork that lives, by one that is a monitor call whose turn needs it, and by a deed; and what a deed needs first of which the tables
+/// tell is among what they tell.
+pub fn what_is_needed_is_wanted()
+    ensures units { (tables : ATables) (scene : Scene) (v : Parts nat_cmp) (f : AFork) (map_home : AForkName → Option ℕ) (page_home : APageName → Option ℕ) (home : AHome)
+        → AreHomed map_home page_home scene → ((g : AForkName) (h : ℕ) → map_home g ≡ Some h → contains_key v.tree.forks g ≡ true) → v.files ≡ files_of tables
+        → get v.tree.forks f.name ≡ Some f → UnitNeeds tables scene v f (Page home) → list_any (λ h. h == home.0) (wants map_home page_home (key_of tables) v (unit_of f.name)) ≡ true }
+    ensures calls { (tables : ATables) (scene : Scene) (v : Parts nat_cmp) (f : AFork) (number : ℕ) (map_home : AForkName → Option ℕ) (page_home : APageName → Option ℕ) (home : AHome)
+        → AreHomed map_home page_home scene → ((g : AForkName) (h : ℕ) → map_home g ≡ Some h → contains_key v.tree.forks g ≡ true) → v.files ≡ files_of tables
+        → get v.tree.forks f.name ≡ Some f → UnitStops (framed_in scene v) f (Calls number) → CallNeeds tables scene v f.name f.body.regs number (Page home)
+        → list_any (λ h. h == home.0) (wants map_home page_home (key_of tables) v (unit_of f.name)) ≡ true }
+    ensures deeds { (key_of : List ℕ → ℕ) (scene : Scene) (v : Parts nat_cmp) (d : ADeed) (map_home : AForkName → Option ℕ) (page_home : APageName → Option ℕ) (home : ℕ)
+        → AreHomed map_home page_home scene → DeedNeeds key_of scene v d home → list_any (λ h. h == home) (wants map_home page_home key_of v (deed_of d)) ≡ true }
+    ensures told { (key_of : List ℕ → ℕ) (scene : Scene) (v : Parts nat_cmp) (d : ADeed) (map_home : AForkName → Option ℕ) (page_home : APageName → Option ℕ) (home : ℕ)
+        → AreHomed map_home page_home scene → IsTold d → DeedNeeds key_of scene v d home
+        → list_any (λ h. h == home) (told map_home page_home key_of (λ at. page_at v.pages (in_file at)) v.tree.forks v.jobs d) ≡ true }
 {}
