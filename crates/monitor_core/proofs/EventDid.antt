@@ -21,7 +21,7 @@ use Rattle.plain_model.specs.Forks.{top_fork}
 use Rattle.plain_model.specs.Unit.{Effect, refused}
 use Rattle.plain_model.specs.Trees.{PlainTree, next_name, sleepers_awoken, tree_of}
 use Rattle.fork_tree.specs.Trees.{IsTree}
-use Rattle.page_contracts.specs.Pages.{Agrees}
+use Rattle.page_contracts.specs.Pages.{Agrees, MayLose}
 use Rattle.plain_model.specs.Events.{with_job, new_job, outer}
 use Rattle.plain_model.specs.State.{PlainState}
 use Rattle.plain_pages.specs.NewMaps.{with_map}
@@ -40,7 +40,7 @@ use Rattle.file_tables.specs.Tables.{files_of, open_of}
 use Rattle.monitor_core.specs.Systems.{named, state_of, FitsPages, Did}
 use Rattle.monitor_calls.proofs.Lookups.{job_found, job_missing, jobs_put}
 use Rattle.monitor_core.proofs.Sleepers.{sleepers_keep}
-use Rattle.monitor_core.proofs.Systems.{fits_left, fits_still, units_changed}
+use Rattle.monitor_core.proofs.Systems.{fits_left, fits_still, lost_still, units_changed}
 use Rattle.monitor_core.proofs.Rooms.{room_le, no_room_le, live_map, has_room}
 use Rattle.monitor_core.proofs.NamedPages.{alike_named}
 
@@ -68,6 +68,7 @@ module _ {P : Type 0} {b : _} (m m' : System P b) where
       serials = λ t. omega (arith, ap (λ p. b.means.serial p t) same, w.serials t);
     };
     most = ap b.means.most same;
+    loses = lost_still m m' same;
   }
 
   pub did_trace : (on : Bool) → m'.pages ≡ m.pages → m'.files ≡ m.files → m'.tree ≡ m.tree → m'.jobs.items ≡ m.jobs.items → m'.typed.items ≡ m.typed.items → m'.panel ≡ record m.panel { trace = on } → Did m m' (Outer (Trace on)) Nothing
@@ -86,6 +87,7 @@ module _ {P : Type 0} {b : _} (m m' : System P b) where
       serials = λ t. omega (arith, ap (λ p. b.means.serial p t) same, w.serials t);
     };
     most = ap b.means.most same;
+    loses = lost_still m m' same;
   }
 
 pub missing : {X : Type 0} (o : Option X) → is_some o ≡ false → o ≡ None
@@ -150,9 +152,9 @@ module _ {P : Type 0} {b : _} (m : System P b) (t : Tty) (user : List ℕ) where
     -- the job is made
     pub did_login : (m' : System P b) (k : Job) → IsTerminal t → slice_index m.tree.serials t.0 ≤ LAST_SERIAL → ((d : DrumWords) → b.means.fits m.pages d → Agrees b.means m.pages (b.means.plain m.pages d)) → b.means.lives m.pages (next_name m.tree t) ≡ false
         → b.means.count m.pages < b.means.most m.pages → m'.tree ≡ with_new_in m.tree t None 1 → m'.files ≡ m.files → m'.jobs.items ≡ set m.jobs.items t.0 (Some k) → m'.typed.items ≡ set m.typed.items t.0 new_typing → k.user ≡ user → k.mode ≡ Command → k.top ≡ next_name m.tree t → k.start ≡ None → m'.panel ≡ m.panel
-        → ((d : DrumWords) → b.means.fits m.pages d → b.means.fits m'.pages d × (b.means.plain m'.pages d ≡ with_map (b.means.plain m.pages d) (next_name m.tree t) EmptyMap)) → b.means.serial m'.pages ≡ b.means.serial m.pages → b.means.most m'.pages ≡ b.means.most m.pages
+        → ((d : DrumWords) → b.means.fits m.pages d → b.means.fits m'.pages d × (b.means.plain m'.pages d ≡ with_map (b.means.plain m.pages d) (next_name m.tree t) EmptyMap)) → b.means.serial m'.pages ≡ b.means.serial m.pages → b.means.most m'.pages ≡ b.means.most m.pages → MayLose b.means m.pages m'.pages
         → Did m m' (Outer (Login t user)) (One (Char t PROMPT))
-    did_login m' k low unused agrees dead room tree files set_to typed_to user_is mode top start panel told pages most = record {
+    did_login m' k low unused agrees dead room tree files set_to typed_to user_is mode top start panel told pages most loses = record {
       each = λ d fits.
           let old = state_of m d in
           let added = told d fits.pages in
@@ -174,4 +176,5 @@ module _ {P : Type 0} {b : _} (m : System P b) (t : Tty) (user : List ℕ) where
         serials = λ u. omega (arith, ap (λ s. s u) pages, w.serials u);
       };
       most = most;
+      loses = loses;
     }

@@ -14,7 +14,7 @@ use Rattle.machine_names.specs.declared.names.TheConstants.{MOST_FILES}
 use Rattle.machine_names.specs.declared.names.Kind.TheVariants.{Write}
 use Rattle.machine_names.specs.Orders.{FilePage, file_page}
 use Rattle.page_contracts.specs.DrumWords.{DrumWords}
-use Rattle.page_contracts.specs.Pages.{Agrees, PagesMeaning}
+use Rattle.page_contracts.specs.Pages.{Agrees, MayLose, PagesMeaning}
 use Rattle.plain_pages.specs.PlainPages.{NumberedPages}
 use Rattle.plain_pages.specs.References.{Referred, denied, full, granted, in_file, page_at, reference, words_at, words_of}
 use Rattle.plain_files.specs.declared.bounds.TheConstants.{LARGEST_BYTE}
@@ -52,7 +52,7 @@ use Rattle.console_access.specs.Writing.{IsRowWritten, left_by, write_of}
 use Rattle.monitor_core.proofs.FileReferences.{named_result, page_is, row_files, row_named, write_filed, write_named}
 use Rattle.monitor_core.proofs.JobDid.{did_still, was_granted}
 use Rattle.monitor_core.proofs.NamedPages.{filed_made, named_made}
-use Rattle.monitor_core.proofs.Systems.{fits_left, serials_made}
+use Rattle.monitor_core.proofs.Systems.{fits_left, lost_still, serials_made}
 
 some_is : {X : Type 0} (o : Option X) → is_some o ≡ true → (x : X) × (o ≡ Some x)
 some_is None h = absurd (cc h)
@@ -201,6 +201,7 @@ module _ {P : Type 0} {b : _} (m : System P b) (name : List ℕ) where
       serials = λ t. omega (arith, ap (λ x. b.means.serial x t) same, w.serials t);
     };
     most = ap b.means.most same;
+    loses = lost_still m m' same;
   }
 
 module _ {P : Type 0} {b : _} (m : System P b) (f page : ℕ) (there : IsThere m.files f) (file : PlainFile) (found : fin.get (files_of m.files) (name_of m.files.dir f) ≡ Some file) where
@@ -232,7 +233,7 @@ module _ {P : Type 0} {b : _} (m : System P b) (f page : ℕ) (there : IsThere m
       ∙ (λ i. record { state = s; items = option_map_or (λ n. PageLine name page ∷ words_shown 0 (words_of s.pages n)) (sym here i) [] })
 
   -- words are put into a page of the file
-  module _ (offset : ℕ) (row : WordRow) (m' : System P b) (tree : m'.tree ≡ m.tree) (jobs : m'.jobs.items ≡ m.jobs.items) (typed : m'.typed.items ≡ m.typed.items) (panel : m'.panel ≡ m.panel) (made : Makes b.means m.pages m'.pages console 2) where
+  module _ (offset : ℕ) (row : WordRow) (m' : System P b) (tree : m'.tree ≡ m.tree) (jobs : m'.jobs.items ≡ m.jobs.items) (typed : m'.typed.items ≡ m.typed.items) (panel : m'.panel ≡ m.panel) (made : Makes b.means m.pages m'.pages console 2) (loses : MayLose b.means m.pages m'.pages) where
     abbrev words : List ℕ
     words = take row.count row.words
 
@@ -279,6 +280,7 @@ module _ {P : Type 0} {b : _} (m : System P b) (f page : ℕ) (there : IsThere m
         shown = subst IsFileName (sym is) fits_name;
         within = words_within;
         most = made.most;
+        loses = loses;
       })
 
     -- and the file reaches behind them
@@ -310,4 +312,5 @@ module _ {P : Type 0} {b : _} (m : System P b) (f page : ℕ) (there : IsThere m
         shown = tt;
         within = words_within;
         most = made.most;
+        loses = loses;
       })

@@ -23,6 +23,7 @@ use Rattle.script_texts.specs.declared.event.Refusal.TheVariants.{NoJob, NoFork,
 use Rattle.plain_model.specs.State.{PlainState, PlainJob}
 use Rattle.plain_pages.specs.PlainPages.{NumberedPages}
 use Rattle.page_contracts.specs.DrumWords.{DrumWords}
+use Rattle.page_contracts.specs.Pages.{MayLose}
 use Rattle.script_texts.specs.Limits.{FitsCause, FitsItem}
 use Rattle.machine_names.specs.Bounds.{IsTerminal}
 use Rattle.plain_model.specs.Run.{apply}
@@ -60,7 +61,7 @@ use Rattle.console_access.specs.Writing.{write_of, left_by, poke_refusal, refuse
 use Rattle.console_access.proofs.Looks.{below, not_below}
 use Rattle.monitor_calls.proofs.Lookups.{job_found, job_missing, jobs_set}
 use Rattle.monitor_calls.proofs.Sounds.{split_at}
-use Rattle.monitor_core.proofs.Systems.{change_is, fits_left, fits_still, serials_made, state_left, units_change}
+use Rattle.monitor_core.proofs.Systems.{change_is, fits_left, fits_still, lost_still, serials_made, state_left, units_change}
 use Rattle.monitor_core.proofs.Filed.{NamedFiles, keyed, reference_keyed}
 use Rattle.monitor_core.proofs.NamedPages.{alike_named, named_left}
 
@@ -94,6 +95,7 @@ module _ {P : Type 0} {b : _} (m m' : System P b) (files : m'.files ≡ m.files)
       serials = λ t. omega (arith, ap (λ p. b.means.serial p t) same, w.serials t);
     };
     most = ap b.means.most same;
+    loses = lost_still m m' same;
   }
 
   pub did_no_job : (t : Tty) (e : JobEvent) → IsTerminal t → job_at m.jobs.items t.0 ≡ None → Did m m' (Outer (event_at t e)) (One (Refusal (NoJob t)))
@@ -233,8 +235,8 @@ module _ {P : Type 0} {b : _} (m m' : System P b) (is_tree : IsTree m.tree) (t :
     pub did_poke : (address word : ℕ) (result : Result (Unit {0}) Cause) (reply : Reply) → e ≡ ToPoke address word → poke_reply result ≡ reply → IfErr result FitsCause
         → (address < ACCUMULATORS → (result ≡ Ok tt) × (m'.tree ≡ with_changed_of m.tree j.top (with_accumulator address word)) × (m'.pages ≡ m.pages))
         → (ACCUMULATORS ≤ address → (m'.tree ≡ m.tree) × Writes b.means m.pages m'.pages (slot_at j.top address) (address % PAGE_WORDS) word result)
-        → Makes b.means m.pages m'.pages j.top.tty 2 → Did m m' (Outer (event_at t e)) reply
-    did_poke address word result reply is shows fits low high made =
+        → Makes b.means m.pages m'.pages j.top.tty 2 → MayLose b.means m.pages m'.pages → Did m m' (Outer (event_at t e)) reply
+    did_poke address word result reply is shows fits low high made loses =
         subst (λ x. Did m m' (Outer (event_at t x)) reply) (sym is) (subst (Did m m' (Outer (event_at t (ToPoke address word)))) shows (record {
           each = λ d f. elim (split_at address ACCUMULATORS) [
             | inl small ↦
@@ -263,6 +265,7 @@ module _ {P : Type 0} {b : _} (m m' : System P b) (is_tree : IsTree m.tree) (t :
             serials = serials_made m m' entries j.top.tty w made;
           };
           most = made.most;
+          loses = loses;
         }))
       where
         reply_fits : (r : Result (Unit {0}) Cause) → IfErr r FitsCause → FitsReply (poke_reply r)
@@ -297,4 +300,5 @@ module _ {P : Type 0} {b : _} (m m' : System P b) (is_tree : IsTree m.tree) (t :
       serials = λ u. omega (arith, ap (λ p. b.means.serial p u) same, w.serials u);
     };
     most = ap b.means.most same;
+    loses = lost_still m m' same;
   })

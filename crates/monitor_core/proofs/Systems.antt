@@ -19,6 +19,8 @@ use Rattle.monitor_calls.specs.declared.job.Job.{Job}
 use Rattle.monitor_core.specs.declared.system.System.{System}
 use Rattle.console_access.specs.Holding.{Holds}
 use Rattle.page_contracts.specs.DrumWords.{DrumWords}
+use Rattle.page_contracts.specs.Pages.{MayLose}
+use Rattle.ka10_spots.proofs.Stored.{lost_none}
 use Rattle.plain_files.specs.OpenFiles.{OpenFiles}
 use Rattle.plain_files.specs.NamedFiles.{AreFiled}
 use Rattle.file_tables.specs.declared.tables.FileTables.{FileTables}
@@ -45,6 +47,10 @@ change_is s name change same = by (map.get s.forks name)
 -- no JFN is held where no job is, nor where none was
 pub unheld_still : (held : List OpenFiles) (jobs jobs' : List (Option Job)) → AreUnheld held jobs → SameTops jobs jobs' → AreUnheld held jobs'
 unheld_still held jobs jobs' none tops t gone = none t (tops.none t gone)
+
+-- pages that are as they were have lost nothing
+pub lost_still : {P : Type 0} {b : _} (m m' : System P b) → m'.pages ≡ m.pages → MayLose b.means m.pages m'.pages
+lost_still {P} {b} m m' same = subst (MayLose b.means m.pages) (sym same) (lost_none b.means m.pages)
 
 module _ {P : Type 0} {b : _} (m m' : System P b) (files : m'.files ≡ m.files) where
   -- the drum fits where the pages of files are those that they were

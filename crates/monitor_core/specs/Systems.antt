@@ -14,6 +14,7 @@ use Rattle.file_tables.specs.Tables.{files_of, open_of}
 use Rattle.script_texts.specs.Limits.{FitsStep}
 use Rattle.page_contracts.specs.DrumWords.{DrumWords}
 use Rattle.page_contracts.specs.declared.answers.Need.{Need}
+use Rattle.page_contracts.specs.Pages.{MayLose}
 use Rattle.page_contracts.specs.Stores.{IsNeeded, StaysPlanned}
 use Rattle.plain_model.specs.Run.{apply, state_after, items_of, AreLegal}
 use Rattle.fork_tree.specs.Trees.{Lives}
@@ -60,13 +61,15 @@ CanDo m (Outer e) = FitsStep (Outer e)
 CanDo m (AUnit f) = IsRunnable m.tree.forks f
 CanDo m Idle = (f : ForkName) → IsRunnable m.tree.forks f → ⊥
 
--- a step is done: over each drum that fits, the system stands for the state that the step leaves, and the reply is what it shows
+-- a step is done: over each drum that fits, the system stands for the state that the step leaves, and the reply is what it shows; what is queued and held may have
+-- become less
 pub record Did {P : Type 0} {b : _} (old new : System P b) (step : Step) (reply : Reply) : Type 0 where
   pub each : (d : DrumWords) → FitsPages old d
       → FitsPages new d × (state_of new d ≡ (apply (state_of old d) step).state) × (reply_items (state_of new d) reply ≡ (apply (state_of old d) step).items)
   pub shown : FitsReply reply
   pub within : (entries : ℕ) → IsWithin old entries → IsWithin new (entries + 1)
   pub most : b.means.most new.pages ≡ b.means.most old.pages
+  pub loses : MayLose b.means old.pages new.pages
 
 -- So many equal steps are done: over each drum that fits they are legal, the system stands for the state that they leave,
 -- the reply is what they show, and up to the last of them the same forks can run.

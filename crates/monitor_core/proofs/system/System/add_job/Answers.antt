@@ -58,7 +58,7 @@ returns-clause-did g c =
     did_login m c.args.t c.args.user c.requires.free _ c.new.result c.requires.terminal (unused m.tree c.args.t none c.requires.unused) (λ d fits. g.met.P.Pages.agrees m.pages d fits)
     (none_held means m.pages m.tree m.jobs.items m.sound c.args.t c.requires.free c.requires.terminal c.are_trees.ensures) c.requires.room (made.2 ∙ new_tree m.tree c.args.t none) refl refl (ap (set m.typed.items c.args.t.0) c.clear.ensures) c.new.ensures.user c.new.ensures.mode (c.new.ensures.top ∙ made.1) c.new.ensures.start refl
     (subst (λ (n : ForkName). (d : DrumWords) → means.fits m.pages d → means.fits c.add_fork.new.self d × (means.plain c.add_fork.new.self d ≡ with_map (means.plain m.pages d) n Empty)) made.1 c.add_fork.ensures.told)
-    c.add_fork.ensures.serials c.add_fork.ensures.most
+    c.add_fork.ensures.serials c.add_fork.ensures.most c.add_fork.ensures.loses
 
 pub returns-clause-others : goal.returns-clause-others
 returns-clause-others g c = made_stays c.args.self.now.tree c.make.new.self c.args.t None c.in-Ok.ensures.2

@@ -83,12 +83,12 @@ returns-in-Start-clause-others g c = top_changed c.args.self.now c.args.t c.in-S
 pub returns-in-Ok-Ok-clause-did : goal.returns-in-Ok-Ok-clause-did
 returns-in-Ok-Ok-clause-did g c =
     did_poke c.args.self.now _ c.are_trees.ensures c.args.t c.args.e c.in-Some.job (job_read c.args.self.now.jobs.items c.args.t.0 _ c.in-Some.job c.args.self.now.sound.job_room c.requires.terminal c.index_mut.ensures.value c.in-Some.is) refl refl refl (put_back c.args.self.now.jobs.items c.args.t.0 c.index_mut.result.now (Some c.in-Some.job) c.index_mut.ensures.value c.in-Some.is) c.in-Poke.address c.in-Poke.word c.in-Ok-Ok.field-0 _ c.in-Poke.is
-    (ap poke_reply c.in-Ok-Ok.field-0-is) c.in-Ok-Ok.ensures.fits (λ low. let done = c.in-Ok-Ok.ensures.low low in (put_at_once _ done.0, done.1, done.2)) c.in-Ok-Ok.ensures.high c.in-Ok-Ok.ensures.made
+    (ap poke_reply c.in-Ok-Ok.field-0-is) c.in-Ok-Ok.ensures.fits (λ low. let done = c.in-Ok-Ok.ensures.low low in (put_at_once _ done.0, done.1, done.2)) c.in-Ok-Ok.ensures.high c.in-Ok-Ok.ensures.made c.in-Ok-Ok.ensures.loses
 
 pub returns-in-Ok-Err-clause-did : goal.returns-in-Ok-Err-clause-did
 returns-in-Ok-Err-clause-did g c =
     did_poke c.args.self.now _ c.are_trees.ensures c.args.t c.args.e c.in-Some.job (job_read c.args.self.now.jobs.items c.args.t.0 _ c.in-Some.job c.args.self.now.sound.job_room c.requires.terminal c.index_mut.ensures.value c.in-Some.is) refl refl refl (put_back c.args.self.now.jobs.items c.args.t.0 c.index_mut.result.now (Some c.in-Some.job) c.index_mut.ensures.value c.in-Some.is) c.in-Poke.address c.in-Poke.word c.in-Ok-Err.field-0 _ c.in-Poke.is
-    (ap poke_reply c.in-Ok-Err.field-0-is) c.in-Ok-Err.ensures.fits (λ low. let done = c.in-Ok-Err.ensures.low low in (put_at_once _ done.0, done.1, done.2)) c.in-Ok-Err.ensures.high c.in-Ok-Err.ensures.made
+    (ap poke_reply c.in-Ok-Err.field-0-is) c.in-Ok-Err.ensures.fits (λ low. let done = c.in-Ok-Err.ensures.low low in (put_at_once _ done.0, done.1, done.2)) c.in-Ok-Err.ensures.high c.in-Ok-Err.ensures.made c.in-Ok-Err.ensures.loses
 
 pub returns-in-Err-clause-waits : goal.returns-in-Err-clause-waits
 returns-in-Err-clause-waits g c =

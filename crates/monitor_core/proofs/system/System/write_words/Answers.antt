@@ -24,7 +24,7 @@ returns-in-Ok-Ok-clause-did g c =
     let f = c.in-Some.file.0 in
     let found = c.in-Some.ensures.found in
     let there = file_there m.files f found.0 in
-    did_write m f c.args.page found.0 _ there c.args.offset c.args.row.now _ refl refl refl refl c.in-Ok-Ok.ensures.made
+    did_write m f c.args.page found.0 _ there c.args.offset c.args.row.now _ refl refl refl refl c.in-Ok-Ok.ensures.made c.in-Ok-Ok.ensures.loses
     c.from-in-Ok-Ok-3.result (omega (arith, c.from.ensures, c.from-in-Ok-Ok.ensures, c.from-in-Ok-Ok-2.ensures, c.from-in-Ok-Ok-3.ensures, words_end c.args.row.now c.args.page c.args.offset c.requires.row))
     (reaches m.files c.reach.new.files f _ _ there c.reach.ensures.files) c.reach.ensures.numbers c.reach.ensures.jfns
     (λ d fits. let told = c.in-Ok-Ok.ensures.told d fits in (told.0, subst (IsRowWritten _ _ _ _ _ _) c.in-Ok-Ok.field-0-is told.1)) c.args.name.now found.1
@@ -35,7 +35,7 @@ returns-in-Ok-Err-clause-did g c =
     let f = c.in-Some.file.0 in
     let found = c.in-Some.ensures.found in
     let there = file_there m.files f found.0 in
-    did_not_write m f c.args.page found.0 _ there c.args.offset c.args.row.now _ refl refl refl refl c.in-Ok-Err.ensures.made
+    did_not_write m f c.args.page found.0 _ there c.args.offset c.args.row.now _ refl refl refl refl c.in-Ok-Err.ensures.made c.in-Ok-Err.ensures.loses
     c.in-Ok-Err.field-0-0 refl (λ d fits. let told = c.in-Ok-Err.ensures.told d fits in (told.0, subst (IsRowWritten _ _ _ _ _ _) c.in-Ok-Err.field-0-is told.1)) c.args.name.now found.1 c.requires.name
 
 pub returns-in-Err-clause-waits : goal.returns-in-Err-clause-waits
