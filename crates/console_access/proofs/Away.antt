@@ -1,5 +1,5 @@
 -- What a look or a touch finds in no frame is on the way to its place.
-use Rattle.std.proofs.Common.{◌≡◌, ℕ, Bool, true, false, cond, List, ◌∷◌, Option, None, Some, inl, inr, refl, ◌∙◌, ap}
+use Rattle.std.proofs.Common.{◌≡◌, ℕ, Bool, true, false, cond, Option, None, Some, inl, inr, refl, ◌∙◌, ap}
 use Rattle.std.specs.Prelude.{nat_lt, slice_index}
 use Rattle.std.specs.Option.{option_map_or}
 use Rattle.std.specs.Ordering.{nat_cmp}
@@ -7,7 +7,6 @@ use Rattle.machine_names.specs.declared.names.Kind.{Kind}
 use Rattle.machine_names.specs.declared.names.PageName.{PageName}
 use Rattle.machine_names.specs.declared.names.Tty.{Tty}
 use Rattle.page_homes.specs.declared.homes.Home.{Home}
-use Rattle.page_contracts.specs.declared.answers.Peeked.{Peeked}
 use Rattle.page_contracts.specs.declared.answers.Peeked.TheVariants.{Is, Absent as Away, NoPage}
 use Rattle.page_contracts.specs.declared.answers.Touch.{Touch}
 use Rattle.page_contracts.specs.declared.answers.Touch.TheVariants.{Zero, Copy, Absent, NeedFrame, Denied, Full}

@@ -1,6 +1,6 @@
 -- A write that is judged alone, before anything is made: what its answer says, and what is left once all is made.
-use Rattle.std.proofs.Common.{◌≡◌, ℕ, ◌+◌, ◌≤◌, Bool, true, false, cond, List, [], ◌∷◌, Option, None, Some, inl, inr, refl, sym, ◌∙◌, ap, subst, arith}
-use Rattle.std.specs.Prelude.{Result, Ok, Err, nat_le}
+use Rattle.std.proofs.Common.{◌≡◌, ℕ, Bool, true, false, cond, [], Option, None, Some, inl, inr, refl, sym, ◌∙◌, ap, subst, arith}
+use Rattle.std.specs.Prelude.{Err, nat_le}
 use Rattle.std.specs.Ordering.{nat_cmp}
 use Rattle.machine_names.specs.declared.names.Kind.TheVariants.{Write}
 use Rattle.machine_names.specs.declared.names.Slot.{Slot}
@@ -13,7 +13,7 @@ use Rattle.page_contracts.specs.declared.answers.Touch.TheVariants.{Ready, Zero,
 use Rattle.page_contracts.specs.Pages.{Agrees, PagesMeaning, Scene, map_away, page_away, touch_of}
 use Rattle.page_contracts.proofs.Touches.{ready_touch}
 use Rattle.plain_pages.specs.PlainPages.{NumberedPages}
-use Rattle.plain_pages.specs.References.{Referred, denied, full, granted, in_map, makings, reference, settled}
+use Rattle.plain_pages.specs.References.{Referred, denied, full, granted, in_map, makings, reference}
 use Rattle.plain_pages.specs.Room.{live}
 use Rattle.plain_pages.specs.WholePages.{AreWhole}
 use Rattle.plain_pages.proofs.ReferencesMade.{settled_stays}

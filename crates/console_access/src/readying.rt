@@ -1,7 +1,6 @@
 // Pages that are made ready for a write, where nothing is needed first.
 ghost use Rattle.std.specs.Prelude.{◌≡◌, ◌<◌, ◌^◌, IfErr, IfOk, IsOk, OnOk, true};
 ghost use Rattle.machine_names.specs.Bounds.{IsFilePage, IsOwner};
-ghost use Rattle.machine_names.specs.declared.names.TheConstants.{SPACE_PAGES};
 ghost use Rattle.monitor_calls.specs.Makings.{Makes};
 ghost use Rattle.page_contracts.specs.DrumWords.{DrumWords};
 ghost use Rattle.page_contracts.specs.Pages.{IsPlace, MayLose, spot_of, touch_of};

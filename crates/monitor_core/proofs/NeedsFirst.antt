@@ -1,5 +1,5 @@
 -- An event that needs something first leaves the system as it was; and what a look at a page of a file tells.
-use Rattle.std.proofs.Common.{◌≡◌, ℕ, ◌∷◌, List, Option, None, Some, refl, sym, ◌∙◌, ap, subst, arith}
+use Rattle.std.proofs.Common.{◌≡◌, ℕ, List, Option, None, Some, refl, sym, ◌∙◌, ap, subst, arith}
 use Rattle.std.specs.Prelude.{Result, Ok, slice_index}
 use Rattle.std.specs.Option.{option_map_or}
 use Rattle.std.specs.FinMap as fin
@@ -7,7 +7,7 @@ use Rattle.machine_names.specs.declared.names.PageName.{PageName}
 use Rattle.machine_names.specs.declared.names.Tty.{Tty}
 use Rattle.page_contracts.specs.declared.answers.Need.{Need}
 use Rattle.page_contracts.specs.declared.answers.Peeked.{Peeked}
-use Rattle.page_contracts.specs.declared.answers.Peeked.TheVariants.{Absent, Is, NoPage}
+use Rattle.page_contracts.specs.declared.answers.Peeked.TheVariants.{Is, NoPage}
 use Rattle.page_contracts.specs.Pages.{Scene, away_or, map_away, page_away, peek_of}
 use Rattle.page_contracts.specs.Stores.{IsNeeded, StaysPlanned}
 use Rattle.job_forks.proofs.Branch.{homed_still}

@@ -1,5 +1,5 @@
 // A file's page, given to a taker.
-ghost use Rattle.std.specs.Prelude.{◌≡◌, ◌<◌, ◌∷◌, []};
+ghost use Rattle.std.specs.Prelude.{◌<◌, ◌∷◌, []};
 ghost use Rattle.outside.specs.declared.TheConstants.{PAGE_WORDS as WORDS};
 ghost use Rattle.page_contracts.specs.Pages.{IsPlace, spot_of};
 ghost use Rattle.plain_pages.specs.References.{word_at, words_at};

@@ -1,8 +1,7 @@
-use Rattle.std.proofs.Common.{◌≡◌, inr, arith, refl, sym, ◌∙◌, ap}
+use Rattle.std.proofs.Common.{◌≡◌, refl, sym, ◌∙◌, ap}
 use Rattle.machine_names.specs.declared.names.Place.TheVariants.{File}
 use Rattle.machine_names.specs.declared.names.Kind.TheVariants.{Write}
 use Rattle.machine_names.specs.Orders.{file_page}
-use Rattle.page_contracts.specs.declared.answers.Need.TheVariants.{Page}
 use Rattle.page_contracts.specs.declared.answers.Touch.TheVariants.{Absent}
 use Rattle.plain_pages.specs.References.{in_file}
 use Rattle.file_bytes.proofs.Settled.{is_ready, there_then}

@@ -33,7 +33,7 @@ returns-in-Went-clause-open g c d f touched =
     let can = first_can p (means.scene old) owner c.args.slot c.new-gather.result c.add.new.self c.new-gather.ensures.owner c.new-gather.ensures.none Went adds refl sound c.requires.owner in
     touched
     ∙ first_opens p (means.scene old) owner c.args.slot c.new-gather.result c.add.new.self c.new-gather.ensures.owner c.new-gather.ensures.none Went adds refl sound c.requires.owner (means.plain c.make.new.pages d) (means.scene c.make.new.pages)
-        (c.make.ensures.told d _ f can) c.make.ensures.grows.maps_away c.make.ensures.grows.pages_away
+    (c.make.ensures.told d _ f can) c.make.ensures.grows.maps_away c.make.ensures.grows.pages_away
 
 pub returns-in-Need-clause-loses : goal.returns-in-Need-clause-loses
 returns-in-Need-clause-loses g c = lost_none g.P.Pages.means c.args.pages.now
@@ -61,9 +61,14 @@ returns-in-Denied-clause-told g c d f =
     let old = c.args.pages.now in
     let p = means.plain old d in
     let sound = sound_over means old p (g.met.P.Pages.agrees old d f) (g.met.P.Pages.whole old d f) in
-    let adds : Adds p (means.scene old) c.new-gather.result c.add.new.self (write_at c.args.slot) (Denied c.in-Denied.field-0) = c.in-Denied.ensures.told d f (c.new-gather.ensures.told p (means.scene old) sound) c.args.slot refl in
-    (f, record { refers = says p (means.scene old) c.args.owner c.args.slot (most_framed p (means.scene old)) (Denied c.in-Denied.field-0)
-            (first_answer p (means.scene old) c.args.owner c.args.slot c.new-gather.result c.add.new.self c.new-gather.ensures.owner c.new-gather.ensures.none (Denied c.in-Denied.field-0) adds); stays = refl })
+    let adds : Adds p (means.scene old) c.new-gather.result c.add.new.self (write_at c.args.slot) (Denied c.in-Denied.field-0) = c.in-Denied.ensures.told d f (c.new-gather.ensures.told p (means.scene old) sound) c.args.slot refl in (
+      f,
+      record {
+        refers = says p (means.scene old) c.args.owner c.args.slot (most_framed p (means.scene old)) (Denied c.in-Denied.field-0)
+            (first_answer p (means.scene old) c.args.owner c.args.slot c.new-gather.result c.add.new.self c.new-gather.ensures.owner c.new-gather.ensures.none (Denied c.in-Denied.field-0) adds);
+        stays = refl;
+      },
+    )
 
 pub returns-in-Denied-clause-loses : goal.returns-in-Denied-clause-loses
 returns-in-Denied-clause-loses g c = lost_none g.P.Pages.means c.args.pages.now
@@ -74,9 +79,14 @@ returns-in-Full-clause-told g c d f =
     let old = c.args.pages.now in
     let p = means.plain old d in
     let sound = sound_over means old p (g.met.P.Pages.agrees old d f) (g.met.P.Pages.whole old d f) in
-    let adds : Adds p (means.scene old) c.new-gather.result c.add.new.self (write_at c.args.slot) Full = c.in-Full.ensures.told d f (c.new-gather.ensures.told p (means.scene old) sound) c.args.slot refl in
-    (f, record { refers = says p (means.scene old) c.args.owner c.args.slot (most_framed p (means.scene old)) Full
-            (first_answer p (means.scene old) c.args.owner c.args.slot c.new-gather.result c.add.new.self c.new-gather.ensures.owner c.new-gather.ensures.none Full adds); stays = refl })
+    let adds : Adds p (means.scene old) c.new-gather.result c.add.new.self (write_at c.args.slot) Full = c.in-Full.ensures.told d f (c.new-gather.ensures.told p (means.scene old) sound) c.args.slot refl in (
+      f,
+      record {
+        refers = says p (means.scene old) c.args.owner c.args.slot (most_framed p (means.scene old)) Full
+            (first_answer p (means.scene old) c.args.owner c.args.slot c.new-gather.result c.add.new.self c.new-gather.ensures.owner c.new-gather.ensures.none Full adds);
+        stays = refl;
+      },
+    )
 
 pub returns-in-Full-clause-loses : goal.returns-in-Full-clause-loses
 returns-in-Full-clause-loses g c = lost_none g.P.Pages.means c.args.pages.now

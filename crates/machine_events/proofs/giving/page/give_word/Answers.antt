@@ -41,8 +41,8 @@ returns-in-Absent g c =
     let pages = c.args.pages.now in
     took_nothing (means.fits pages) g.T.Taker.fault_count g.T.Taker.onward g.T.Taker.stands g.T.Taker.cut c.args.out.now tt _
     (λ d f.
-        let there = c.requires.there d f in
-        elim (peek_away (means.plain pages d) (means.scene pages) (spot_of c.args.at) c.args.offset c.in-Absent.field-0 (c.in-Absent.ensures.told d f)) [
-          | inl maps ↦ absurd (let no : None ≡ Some c.in-Absent.field-0.0 = sym there.0 ∙ maps in cc no)
-          | inr page ↦ absurd (let no : None ≡ Some c.in-Absent.field-0.0 = sym there.1 ∙ page in cc no)
-        ])
+    let there = c.requires.there d f in
+    elim (peek_away (means.plain pages d) (means.scene pages) (spot_of c.args.at) c.args.offset c.in-Absent.field-0 (c.in-Absent.ensures.told d f)) [
+      | inl maps ↦ absurd (let no : None ≡ Some c.in-Absent.field-0.0 = sym there.0 ∙ maps in cc no)
+      | inr page ↦ absurd (let no : None ≡ Some c.in-Absent.field-0.0 = sym there.1 ∙ page in cc no)
+    ])

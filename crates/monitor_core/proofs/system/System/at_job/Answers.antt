@@ -13,7 +13,6 @@ use Rattle.machine_names.specs.declared.names.ForkName.{ForkName}
 use Rattle.monitor_core.specs.Systems.{event_frames}
 use Rattle.monitor_core.specs.JobEvents.{FitsJobEvent}
 use Rattle.console_access.specs.Looking.{item_of}
-use Rattle.step_shown.specs.Replies.{reply_of}
 use Rattle.monitor_calls.specs.Sound.{AreSound}
 use Rattle.monitor_calls.proofs.Sounds.{entry_read, job_read, same_tops_set, sound_change}
 use Rattle.file_tables.specs.Tables.{open_of}
