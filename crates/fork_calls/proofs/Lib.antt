@@ -8,3 +8,4 @@ pub mod Adding
 pub mod Added
 pub mod MadeTurns
 pub mod Needed
+mod HomesBack

@@ -87,6 +87,7 @@ pub fn change<P: Pages>(
     ensures told { ChangesIf P.means pages.old pages.new tree.old tree.new result what }
     ensures needs { IfErr result (IsNeeded P.means.store 1 pages.new) }
     ensures stopped { OnErr result (pages.new ≡ pages.old) }
+    ensures left { OnErr result (tree.new ≡ tree.old) }
     ensures core { P.means.flat ≡ true → IsOk result }
     ensures leaves { CallLeaves P.means pages.old pages.new tree.old tree.new who 0 }
 {

@@ -49,6 +49,7 @@ pub fn end<P: Pages>(
     ensures needs { AnswerNeeds P.means.store 1 pages.new result }
     ensures core { P.means.flat ≡ true → IsDone result }
     ensures unmade { (n : ANeed) → result ≡ Answer.Need n → pages.new ≡ pages.old }
+    ensures left { (n : ANeed) → result ≡ Answer.Need n → tree.new ≡ tree.old }
     ensures leaves { CallLeaves P.means pages.old pages.new tree.old tree.new who 0 }
     ensures failed { (code : ℕ) → ending ≡ AnEnd.Failed code → tree.new ≡ tree.old }
     ensures regs { HasRegs result }

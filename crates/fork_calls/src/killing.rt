@@ -24,6 +24,7 @@ pub fn kill<P: Pages>(
     ensures told { ChangesIf P.means pages.old pages.new tree.old tree.new result (AForkChange.Kill name) }
     ensures needs { IfErr result (IsNeeded P.means.store 1 pages.new) }
     ensures stopped { OnErr result (pages.new ≡ pages.old) }
+    ensures left { OnErr result (tree.new ≡ tree.old) }
     ensures core { P.means.flat ≡ true → IsOk result }
     ensures leaves { CallLeaves P.means pages.old pages.new tree.old tree.new who 0 }
 {

@@ -154,6 +154,7 @@ pub fn make<P: Pages>(
     ensures needs { AnswerNeeds P.means.store making_frames pages.new result }
     ensures core { P.means.flat ≡ true → IsDone result }
     ensures unmade { (n : ANeed) → result ≡ Answer.Need n → PlansOnly P.means who.tty pages.old pages.new }
+    ensures left { (n : ANeed) → result ≡ Answer.Need n → tree.new ≡ tree.old }
     ensures leaves { CallLeaves P.means pages.old pages.new tree.old tree.new who 128 }
     ensures adds { AddsLast who.tty tree.old tree.new }
     ensures regs { HasRegs result }

@@ -68,6 +68,7 @@ pub fn set_accumulators<P: Pages>(
     ensures needs { AnswerNeeds P.means.store read_frames pages.new result }
     ensures core { P.means.flat ≡ true → IsDone result }
     ensures unmade { (n : ANeed) → result ≡ Answer.Need n → PlansOnly P.means who.tty pages.old pages.new }
+    ensures left { (n : ANeed) → result ≡ Answer.Need n → tree.new ≡ tree.old }
     ensures leaves { CallLeaves P.means pages.old pages.new tree.old tree.new who 128 }
     ensures regs { HasRegs result }
 {

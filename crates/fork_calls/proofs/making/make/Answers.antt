@@ -43,6 +43,7 @@ use Rattle.job_forks.proofs.Branch.{made_on, none_made, plans_none}
 use Rattle.job_forks.proofs.CallLeaving.{grown_leaves, none_grown}
 use Rattle.fork_calls.proofs.Going.{goes, stops}
 use Rattle.fork_calls.proofs.Grown.{slot_told}
+use Rattle.fork_calls.proofs.HomesBack.{homed_back}
 use Rattle.job_forks.proofs.Holdings.{grown_made, holds_still}
 use Rattle.fork_calls.proofs.MadeTurns.{still_there, made_come, made_full, made_goes, made_new, made_stops, make_changes, wanted_new}
 use Rattle.fork_calls.proofs.Needed.{done_needs, dropped_needs}
@@ -251,9 +252,11 @@ returns-in-Err-clause-unmade g c n is =
     let name = c.next_name-name.result in
     let new = c.drop_fork.new.self in
     let drop : ForkDropped means name c.add_fork.new.self new = subst (λ s. ForkDropped means name s new) same c.drop_fork.ensures in
+    let absent : map.get c.args.tree.now.forks name ≡ None = ap (map.get c.args.tree.now.forks) c.next_name-name.ensures ∙ name_unused c.args.tree.now c.args.who.tty c.are_trees.ensures in
     record {
       made = none_made means c.args.pages.now new c.args.who.tty (drop.serials ∙ add.serials) (drop.most ∙ add.most);
       planned = added_and_dropped means name c.map_wanted.result c.args.pages.now c.add_fork.new.self new (g.met.P.Pages.housed c.args.pages.now) (g.met.P.Pages.housed new) add drop;
+      homed = homed_back means name c.map_wanted.result c.args.pages.now c.add_fork.new.self new (g.met.P.Pages.housed c.args.pages.now) (g.met.P.Pages.housed new) (c.requires.holds.living name ∙ ap is_some absent) add drop;
     }
 
 pub returns-in-Ok-clause-unmade : goal.returns-in-Ok-clause-unmade
