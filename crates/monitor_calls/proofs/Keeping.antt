@@ -110,6 +110,11 @@ forced_keeps f channel few pc acs = record { name = refl; slot = refl; superior 
 pub none_keeps : (f : Fork) (regs : Regs) → regs.pc < 2 ^ 18 → length regs.ac ≡ ACCUMULATORS → Kept f (with_regs f regs) 0
 none_keeps f regs pc acs = record { name = refl; slot = refl; superior = refl; status = λ s. s; pc = pc; accumulators = acs; units = omega arith }
 
+-- no unit that was run, with the registers as they were, is the fork as it was
+pub ran_none : (f : Fork) (n : ℕ) (regs : Regs) → n ≡ 0 → regs ≡ f.body.regs → ran_on f n regs ≡ f
+ran_none f n regs none same =
+    let units : f.body.units + n ≡ f.body.units = omega (arith, none) in λ i. record f { body = record f.body { regs = same i; units = units i } }
+
 -- so many units that left these registers and posted nothing
 pub row_keeps : (f : Fork) (n : ℕ) (regs : Regs) → regs.pc < 2 ^ 18 → length regs.ac ≡ ACCUMULATORS → Kept f (ran_on f n regs) n
 row_keeps f n regs pc accumulators = record { name = refl; slot = refl; superior = refl; status = λ s. s; pc = pc; accumulators = accumulators; units = refl }

@@ -20,8 +20,8 @@ use Rattle.ka10_spots.proofs.Stored.{lost_on}
 use Rattle.ka10_unit.specs.Gathers.{framed}
 use Rattle.fork_tree.specs.Trees.{IsTree, Lives}
 use Rattle.fork_tree.proofs.Slots.{get_put}
-use Rattle.job_forks.specs.Holding.{Holds, MakesPages}
-use Rattle.job_forks.proofs.Branch.{made_on}
+use Rattle.job_forks.specs.Holding.{Holds, MakesPages, StaysHomed}
+use Rattle.job_forks.proofs.Branch.{homed_still, made_on}
 use Rattle.file_tables.specs.declared.tables.FileTables.{FileTables}
 use Rattle.file_tables.specs.Tables.{open_of}
 use Rattle.file_tables.specs.Keys.{key_of}
@@ -71,7 +71,9 @@ with_tree was tree files typed = record was { tree = tree; files = files; typed 
 
 -- so many units of a fork were done, and the next needs this first
 pub record StopsBehind {P : Type 0} (means : PagesMeaning P) (old new : P) (was : Tables) (tree : PlainTree) (files : FileTables) (typed : List Typing) (f g : Fork) (count : ℕ) (n : Need) : Type 0 where
-  pub told : (d : DrumWords) → means.fits old d → means.fits new d × (tree ≡ put_back was.tree g) × RanUpTo f (means.plain old d) count g (means.plain new d)
+  pub told : (d : DrumWords) → means.fits old d → means.fits new d × RanUpTo f (means.plain old d) count g (means.plain new d)
+  pub stands : tree ≡ put_back was.tree g
+  pub still : count ≡ 0 → g ≡ f
   pub same : files ≡ was.files
   pub same_typed : typed ≡ was.typed
   pub keeps : Kept f g count
@@ -79,6 +81,7 @@ pub record StopsBehind {P : Type 0} (means : PagesMeaning P) (old new : P) (was 
   pub unmade : MakesPages means f.name.tty 0 old new
   pub loses : MayLose means old new
   pub planned : count ≡ 0 → StaysPlanned means.store old new
+  pub homed : count ≡ 0 → StaysHomed means old new
   pub needed : IsNeeded means.store unit_frames new n
   pub reason : count ≡ 0 → UnitReason means old was f n
 
@@ -88,16 +91,11 @@ module _ {P : Type 0} (means : PagesMeaning P) (old new : P) (was : Tables) (tre
     told = record {
       files = s.same;
       typed = s.same_typed;
-      each = λ d fits.
-          let t = s.told d fits in
-          let same = up_to_none f g (means.plain old d) (means.plain new d) t.2 in (
-            t.0,
-            t.1 ∙ ap (put_back was.tree) same.0 ∙ ap (λ m. record was.tree { forks = m }) (put_itself was.tree.forks f.name f lives),
-            same.1,
-          );
+      tree = s.stands ∙ ap (put_back was.tree) (s.still refl) ∙ ap (λ m. record was.tree { forks = m }) (put_itself was.tree.forks f.name f lives);
+      each = λ d fits. (let t = s.told d fits in (t.0, (up_to_none f g (means.plain old d) (means.plain new d) t.1).1));
     };
     leaves = s.leaves;
-    unmade = record { made = s.unmade; planned = s.planned refl };
+    unmade = record { made = s.unmade; planned = s.planned refl; homed = s.homed refl };
     needed = s.needed;
     reason = s.reason refl;
   }
@@ -105,12 +103,12 @@ module _ {P : Type 0} (means : PagesMeaning P) (old new : P) (was : Tables) (tre
   some_done : (count : ℕ) (reach : Reach) → 1 ≤ count → StopsBehind means old new was tree files typed f g count n → UnitsRan means old new was (with_tree was tree files typed) f (record { count = count; shown = nothing; reach = reach })
   some_done count reach some s = record {
     after = g;
-    there = λ d fits. subst (λ (x : PlainTree). Lives x.forks g) (sym (s.told d fits).1) (get_put was.tree.forks g.name g.name g refl);
+    there = λ d fits. subst (λ (x : PlainTree). Lives x.forks g) (sym s.stands) (get_put was.tree.forks g.name g.name g refl);
     told = λ d fits.
         let t = s.told d fits in (
           t.0,
-          subst (λ (x : Rest). RanUnits (key_of was.files) (rest_of was) f (means.plain old d) count (record { rest = x; fork = g; pages = means.plain new d; shown = nothing })) (λ i. rest_of (with_tree was (sym t.1 i) (sym s.same i) (sym s.same_typed i)))
-              (up_to_some (key_of was.files) (rest_of was) f g (means.plain old d) (means.plain new d) count some t.2),
+          subst (λ (x : Rest). RanUnits (key_of was.files) (rest_of was) f (means.plain old d) count (record { rest = x; fork = g; pages = means.plain new d; shown = nothing })) (λ i. rest_of (with_tree was (sym s.stands i) (sym s.same i) (sym s.same_typed i)))
+              (up_to_some (key_of was.files) (rest_of was) f g (means.plain old d) (means.plain new d) count some t.1),
         );
     numbers = λ d fits. dir_stays was.files files (ap (λ (t : FileTables). t.dir) s.same);
     keeps = s.keeps;
@@ -161,7 +159,7 @@ made_less : {P : Type 0} {means : PagesMeaning P} {p q : P} {t : _} → Makes me
 made_less m = record { lives = m.lives; forks = m.forks; most = m.most; own = omega (arith, m.own); others = m.others }
 
 -- one fork has another body, behind so many units that made no page
-module _ (was : Tables) (is : IsTree was.tree) (f : Fork) (lives : Lives was.tree.forks f) (body : Body) (count : ℕ) (keeps : Kept f (with_body body f) count) {P : Type 0} (means : PagesMeaning P) (old mid : P) (made : Makes means old mid f.name.tty 0) (undone : count ≡ 0 → mid ≡ old) (lost : MayLose means old mid) (holds : Holds means old was.tree.forks) where
+module _ (was : Tables) (is : IsTree was.tree) (f : Fork) (lives : Lives was.tree.forks f) (body : Body) (count : ℕ) (keeps : Kept f (with_body body f) count) {P : Type 0} (means : PagesMeaning P) (old mid : P) (made : Makes means old mid f.name.tty 0) (undone : count ≡ 0 → (with_body body f ≡ f) × (mid ≡ old)) (lost : MayLose means old mid) (holds : Holds means old was.tree.forks) where
   abbrev g : Fork
   g = with_body body f
 
@@ -173,20 +171,23 @@ module _ (was : Tables) (is : IsTree was.tree) (f : Fork) (lives : Lives was.tre
       → (d : DrumWords) → means.fits old d → UnitStops (framed means old d) f last
   stops_here last told stops none d fits =
       subst (λ (k : Fork). UnitStops (framed means old d) k last) (same_fork told none d fits)
-      (subst (λ (x : P). UnitStops (framed means x d) g last) (undone none) (stops d fits))
+      (subst (λ (x : P). UnitStops (framed means x d) g last) (undone none).1 (stops d fits))
 
   -- and a unit needs something first
   pub unit_stops : (n : Need) → ((d : DrumWords) → means.fits old d → means.fits mid d × RanUpTo f (means.plain old d) count g (means.plain mid d)) → ((d : DrumWords) → means.fits old d → UnitStops (framed means mid d) g (Needs n)) → IsNeeded means.store unit_frames mid n
       → StopsBehind means old mid was (put_back was.tree g) was.files was.typed f g count n
   unit_stops n told stops needed = record {
-    told = λ d fits. (let t = told d fits in (t.0, refl, t.1));
+    told = told;
+    stands = refl;
+    still = λ none. (undone none).0;
     same = refl;
     same_typed = refl;
     keeps = keeps;
     leaves = leaves_one was.tree is f lives body count keeps means old mid holds (made_less made);
     unmade = made_none made;
     loses = lost;
-    planned = λ none. subst (StaysPlanned means.store old) (sym (undone none)) (planned_still means.store old);
+    planned = λ none. subst (StaysPlanned means.store old) (sym (undone none).1) (planned_still means.store old);
+    homed = λ none. subst (StaysHomed means old) (sym (undone none).1) (homed_still means old);
     needed = needed;
     reason = λ none d fits. unit_needs was.files (means.scene old) (parts_in (rest_of was) (means.plain old d)) f n (stops_here (Needs n) told stops none d fits);
   }
@@ -199,7 +200,9 @@ module _ (was : Tables) (is : IsTree was.tree) (f : Fork) (lives : Lives was.tre
     told = λ d fits.
         let t = told d fits in
         let w = waits.told.each d t.0 in
-        (w.0, w.1, subst (RanUpTo f (means.plain old d) count g) (sym w.2) t.1);
+        (w.0, subst (RanUpTo f (means.plain old d) count g) (sym w.1) t.1);
+    stands = waits.told.tree;
+    still = λ none. (undone none).0;
     same = waits.told.files;
     same_typed = waits.told.typed;
     keeps = keeps;
@@ -208,7 +211,8 @@ module _ (was : Tables) (is : IsTree was.tree) (f : Fork) (lives : Lives was.tre
         (record { holds = waits.left.holds; kept = λ x e. elim (waits.left.kept x e) [ inl came ↦ inl (came_less (put_back was.tree g).forks x 0 came) | inr new ↦ inr new ]; caller = there; tops = waits.left.tops; made = waits.left.made }));
     unmade = made_on means f.name.tty 0 0 old mid new (made_none made) waits.unmade.made;
     loses = lost_on means old mid new lost waits.left.loses;
-    planned = λ none. subst (λ (s : P). StaysPlanned means.store s new) (undone none) waits.unmade.planned;
+    planned = λ none. subst (λ (s : P). StaysPlanned means.store s new) (undone none).1 waits.unmade.planned;
+    homed = λ none. subst (λ (s : P). StaysHomed means s new) (undone none).1 waits.unmade.homed;
     needed = waits.needed;
     reason = λ none d fits. call_needs was.files (means.scene old) (parts_in (rest_of was) (means.plain old d)) f n number (stops_here (Calls number) told stops none d fits) (turn_needs none d fits);
   }
@@ -221,7 +225,7 @@ module _ (was : Tables) (is : IsTree was.tree) (f : Fork) (lives : Lives was.tre
       turn_needs none d fits =
           let behind : CallNeeds was.files (means.scene mid) (parts_in (rest_of (record was { tree = put_back was.tree g })) (means.plain mid d)) f.name g.body.regs number n = waits.reason g (get_put was.tree.forks g.name g.name g refl) d (told d fits).0 in
           let before : CallNeeds was.files (means.scene old) (parts_in (rest_of (record was { tree = put_back was.tree g })) (means.plain old d)) f.name g.body.regs number n =
-          subst (λ (x : P). CallNeeds was.files (means.scene x) (parts_in (rest_of (record was { tree = put_back was.tree g })) (means.plain x d)) f.name g.body.regs number n) (undone none) behind in
+          subst (λ (x : P). CallNeeds was.files (means.scene x) (parts_in (rest_of (record was { tree = put_back was.tree g })) (means.plain x d)) f.name g.body.regs number n) (undone none).1 behind in
           subst (λ (x : PlainTree). CallNeeds was.files (means.scene old) (parts_in (rest_of (record was { tree = x })) (means.plain old d)) f.name f.body.regs number n) (ap (λ m. record was.tree { forks = m }) (put_itself was.tree.forks f.name f lives))
           (subst (λ (k : Fork). CallNeeds was.files (means.scene old) (parts_in (rest_of (record was { tree = put_back was.tree k })) (means.plain old d)) f.name k.body.regs number n) (same_fork told none d fits) before)
 

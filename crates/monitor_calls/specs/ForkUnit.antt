@@ -257,7 +257,7 @@ pub record RanOne {P : Type 0} (leaving : Leaving) (Stops : Framed → Fork → 
   pub stops : (d : DrumWords) → means.fits old d → Stops (framed means new d) g last
   pub keeps : Kept f g (units_over last)
   pub made : Makes means old new f.name.tty (makings_of last)
-  pub undone : units_over last ≡ 0 → new ≡ old
+  pub undone : units_over last ≡ 0 → (g ≡ f) × (new ≡ old)
   pub loses : MayLose means old new
   pub fits : FitsLast last
   pub needs : LastNeeds means.store new last
@@ -269,7 +269,7 @@ pub record Ran {P : Type 0} (means : PagesMeaning P) (old new : P) (f g : Fork) 
   pub stops : (d : DrumWords) → means.fits old d → UnitStops (framed means new d) g row.last
   pub keeps : Kept f g row.count
   pub made : Makes means old new f.name.tty (makings_of row.last)
-  pub undone : row.count ≡ 0 → new ≡ old
+  pub undone : row.count ≡ 0 → (g ≡ f) × (new ≡ old)
   pub loses : MayLose means old new
   pub fits : FitsLast row.last
   pub needs : LastNeeds means.store new row.last
@@ -346,11 +346,12 @@ pub record Called {P : Type 0} (means : PagesMeaning P) (old new : P) (was is : 
   pub typing_room : length is.typed ≡ TERMINALS
   pub fits : FitsShown shown
 
--- files and JFNs are as they were, and so is what was typed; and over each drum that fits so are forks and pages
+-- the forks, the files and JFNs, and what was typed are as they were; and over each drum that fits so are the pages
 pub record StaysPlainly {P : Type 0} (means : PagesMeaning P) (old new : P) (was is : Tables) : Type 0 where
+  pub tree : is.tree ≡ was.tree
   pub files : is.files ≡ was.files
   pub typed : is.typed ≡ was.typed
-  pub each : (d : DrumWords) → means.fits old d → means.fits new d × (is.tree ≡ was.tree) × (means.plain new d ≡ means.plain old d)
+  pub each : (d : DrumWords) → means.fits old d → means.fits new d × (means.plain new d ≡ means.plain old d)
 
 -- why the turn of a call of a fork with these registers needs this first, over each drum that fits
 abbrev pub CallReason : {P : Type 0} → PagesMeaning P → P → Tables → ForkName → Regs → ℕ → Need → Type 0

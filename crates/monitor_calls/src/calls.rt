@@ -98,6 +98,7 @@ fn fork_turn<P: Pages>(
     ensures needs { AnswerNeeds P.means.store call_frames pages.new result }
     ensures core { P.means.flat ≡ true → IsDone result }
     ensures unmade { (n : ANeed) → result ≡ Answer.Need n → PlansOnly P.means who.tty pages.old pages.new }
+    ensures left { (n : ANeed) → result ≡ Answer.Need n → tree.new ≡ tree.old }
     ensures leaves { CallLeaves P.means pages.old pages.new tree.old tree.new who 128 }
     ensures adds { number ≡ CFORK → AddsLast who.tty tree.old tree.new }
     ensures regs { HasRegs result }
@@ -141,6 +142,7 @@ fn turn<P: Pages>(
     ensures needs { AnswerNeeds P.means.store unit_frames pages.new result }
     ensures core { P.means.flat ≡ true → IsDone result }
     ensures unmade { (n : ANeed) → result ≡ Answer.Need n → PlansOnly P.means who.tty pages.old pages.new }
+    ensures left { (n : ANeed) → result ≡ Answer.Need n → tree.new ≡ tree.old }
     ensures reason { (n : ANeed) → result ≡ Answer.Need n → CallReason P.means pages.old (tables_in tree.old files.old jobs.now.items typed.old.items clock) who regs.now number n }
     ensures leaves { CallLeaves P.means pages.old pages.new tree.old tree.new who most_makings }
     ensures own { reach_of number ≡ Reach.Own → tree.new ≡ tree.old }

@@ -171,13 +171,14 @@ returns-in-Need-clause-needs g c =
     let left : Tables = record tables { tree = c.turn-answer.new.tree; files = c.turn-answer.new.files; typed = c.turn-answer.new.typed.items } in
     record {
       told = record {
+        tree = turn.left n c.in-Need.is;
         files = turn.stays n c.in-Need.is;
         typed = turn.untyped n c.in-Need.is;
         each = λ d drum.
             let p = means.plain c.args.pages.now d in
             let q = means.plain c.turn-answer.new.pages d in
             let same = subst (TurnedSo (key_of tables.files) (parts_in (rest_of tables) p) (parts_in (rest_of left) q) who c.in-Some.fork.now.body.regs c.args.number) c.in-Need.is (turn.told.told d drum) in
-            (turn.told.fits d drum, ap (λ (v : Parts nat_cmp). v.tree) same, ap (λ (v : Parts nat_cmp). v.pages) same);
+            (turn.told.fits d drum, ap (λ (v : Parts nat_cmp). v.pages) same);
       };
       left = turn.leaves;
       unmade = turn.unmade n c.in-Need.is;

@@ -548,3 +548,15 @@ returns-in-Strings-clause-reason g c n is d fits =
     by_family (Some Strings) was.files (means.scene pages) (parts_in (rest_of was) p) who c.args.regs.now c.args.number n (of_call c.args.number c.in-Some.ensures c.in-Strings.is)
     (subst (λ (a : ByteAsked). StringNeeds was.files (means.scene pages) p (string_call c.args.number a) n) (sym (bytes_asked was who c.args.regs.now c.args.number j.0 j.1 job.unheld typing at p))
     (reason_of n is (c.call-in-Strings.ensures.told.comes d (jobs_of (open_of was.files) was.typed was.jobs) fits (has_line was who c.args.regs.now c.args.number j.0 j.1 job.unheld typing at))))
+
+-- where something is needed first, the tree is as it was
+pub returns-in-Forks-clause-left : goal.returns-in-Forks-clause-left
+returns-in-Forks-clause-left g c n is = c.fork_turn.ensures.left n is
+
+pub returns-in-Interrupts-clause-left : goal.returns-in-Interrupts-clause-left
+returns-in-Interrupts-clause-left g c n is =
+    let call = c.call in
+    (subst (StaysAll c.args.pages.now call.new.pages c.args.tree.now call.new.tree c.index_mut-in-Interrupts.result.now.input call.new.line) is call.ensures.stays).1
+
+pub returns-in-Clock-clause-left : goal.returns-in-Clock-clause-left
+returns-in-Clock-clause-left g c n is = absurd (subst IsDone is c.call-in-Clock.ensures.done)

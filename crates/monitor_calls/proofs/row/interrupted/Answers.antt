@@ -69,7 +69,7 @@ returns-in-Need g c at =
       stops = λ d fits. inl ((c.inspect.ensures.told d fits).is f (record { name = refl; body = refl }) ∙ ap (ended (framed means p d) c.inspect.new.reader) (c.in-Err.is ∙ ap Err c.in-Need.is));
       keeps = none_keeps f c.args.body.now.regs c.requires.can.fits.pc c.requires.can.fits.accumulators;
       made = record { lives = refl; forks = refl; most = refl; own = omega arith; others = λ t ne. refl };
-      undone = λ none. refl;
+      undone = λ none. (refl, refl);
       loses = lost_none means p;
       fits = tt;
       needs = needed_more means.store text_frames unit_frames p c.in-Need.need (omega arith) needs.1;

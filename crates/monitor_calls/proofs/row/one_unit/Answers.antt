@@ -78,7 +78,7 @@ returns-in-Call g c at =
         others = slow.grows.serials;
       };
       fits = tt;
-      undone = λ none. slow.stopped.1;
+      undone = λ none. ((λ i. fork_of c.args.fork at (record c.args.body.now { regs = slow.stopped.0 i })), slow.stopped.1);
       loses = slow.grows.loses;
       needs = tt;
       core = λ flat. tt;
@@ -99,7 +99,7 @@ returns-in-Need g c at =
         own = omega (arith, ap (λ x. g.P.Pages.means.serial x c.args.fork.tty) slow.stopped.1);
         others = slow.grows.serials;
       };
-      undone = λ none. slow.stopped.1;
+      undone = λ none. ((λ i. fork_of c.args.fork at (record c.args.body.now { regs = slow.stopped.0 i })), slow.stopped.1);
       loses = slow.grows.loses;
       fits = tt;
       needs = needed_more g.P.Pages.means.store most_frames unit_frames c.slow_unit.new.pages c.in-Need.need (omega arith) slow.needs;

@@ -9,7 +9,7 @@ use Rattle.ka10_deeds.specs.declared.done.Post.TheVariants.{Overflow, Pushdown}
 use Rattle.step_shown.specs.Shown.{nothing}
 use Rattle.plain_model.specs.Inspections.{is_interrupted}
 use Rattle.monitor_calls.specs.ForkUnit.{Kept, Ran, RanUnits, behind_instruction, behind_interrupted, behind_unit, fork_of, left_so, ran_on, units_over}
-use Rattle.monitor_calls.proofs.Keeping.{ended_keeps, more_keeps, row_keeps}
+use Rattle.monitor_calls.proofs.Keeping.{ended_keeps, more_keeps, ran_none, row_keeps}
 use Rattle.monitor_calls.proofs.UnitRan.{post_behind, row_ran}
 use Rattle.monitor_calls.proofs.Silent.{instruction_alone}
 use Rattle.monitor_calls.proofs.UnitRows.{first_row, more_row, one_as}
@@ -135,7 +135,10 @@ returns-in-Slow-clause-ran g c at =
         own = omega (arith, one.made.own, ap (λ s. s f.name.tty) burst.stays.serials);
         others = λ t ne. one.made.others t ne ∙ ap (λ s. s t) burst.stays.serials;
       };
-      undone = λ none. one.undone (omega (arith, none, count)) ∙ (burst.undone c.in-Slow.is (omega (arith, none, count))).1;
+      undone = λ none.
+          let first = one.undone (omega (arith, none, count)) in
+          let before = burst.undone c.in-Slow.is (omega (arith, none, count)) in
+          (first.0 ∙ ran_none f c.from.result regs (omega (arith, none, count, counts)) before.0, first.1 ∙ before.1);
       loses = lost_on g.P.Pages.means c.args.pages.now c.burst-burst.new.pages c.one_unit-last.new.pages burst.loses one.loses;
       fits = one.fits;
       needs = one.needs;
