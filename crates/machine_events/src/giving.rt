@@ -7,5 +7,5 @@ mod reply;
 mod text;
 mod unit;
 
-pub use echo::give_echo;
-pub use reply::give_all;
+pub use echo::{give_echo, give_told};
+pub use reply::{give_all, give_reply};

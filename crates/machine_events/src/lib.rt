@@ -6,5 +6,5 @@
 mod giving;
 mod machine;
 
-pub use giving::{give_all, give_echo};
+pub use giving::{give_all, give_echo, give_reply, give_told};
 pub use machine::{Config, Ended, Machine};

@@ -22,6 +22,7 @@ use Rattle.monitor_calls.specs.declared.job.Job.{Job}
 use Rattle.step_shown.specs.declared.reply.Reply.{Reply}
 use Rattle.step_shown.specs.declared.reply.Reply.TheVariants.{Page as ShowsPage}
 use Rattle.monitor_core.specs.declared.system.System.{System}
+use Rattle.monitor_core.specs.Systems.{FitsPages}
 
 -- a page that is needed is the one that a file of this name has there
 pub record IsFileAway {P : Type 0} {b : _} (m : System P b) (name : List ℕ) (page : ℕ) (need : Need) : Type 0 where
@@ -45,14 +46,18 @@ EventNeeds m (Words name page offset row) need = IsFileAway m name page need
 EventNeeds m (Page name page) need = IsFileAway m name page need
 EventNeeds m e need = ⊥
 
--- the maps on the way to a place and its page are in frames, over each drum that fits
-abbrev pub IsInFrames : {P : Type 0} → PagesMeaning P → P → Place → Type 0
-IsInFrames means p at = (d : DrumWords) → means.fits p d → (map_away (means.plain p d) (means.scene p) (spot_of at) ≡ None) × (page_away (means.plain p d) (means.scene p) (spot_of at) ≡ None)
+-- the maps on the way to a place and its page are in frames, over the words of a drum
+abbrev pub IsInFrames : {P : Type 0} → PagesMeaning P → P → DrumWords → Place → Type 0
+IsInFrames means p d at = (map_away (means.plain p d) (means.scene p) (spot_of at) ≡ None) × (page_away (means.plain p d) (means.scene p) (spot_of at) ≡ None)
 
--- a reply can be given: the page of a file that it shows is in a frame
+-- a reply can be given over the words of a drum: the page of a file that it shows is in a frame
+abbrev pub ShownAt : {P : Type 0} {b : _} → System P b → DrumWords → Reply → Type 0
+ShownAt {P} {b} m d (ShowsPage name page) = (f : ℕ) → IsThere m.files f → name_of m.files.dir f ≡ name → IsInFrames b.means m.pages d (InFile (record { 0 = f }) page)
+ShownAt m d reply = Unit {0}
+
+-- so over each drum that fits
 abbrev pub CanShow : {P : Type 0} {b : _} → System P b → Reply → Type 0
-CanShow {P} {b} m (ShowsPage name page) = (f : ℕ) → IsThere m.files f → name_of m.files.dir f ≡ name → IsInFrames b.means m.pages (InFile (record { 0 = f }) page)
-CanShow m reply = Unit {0}
+CanShow m reply = (d : DrumWords) → FitsPages m d → ShownAt m d reply
 
 -- all tables of a system
 abbrev pub tables_of : {P : Type 0} {b : _} → System P b → Tables

@@ -28,8 +28,8 @@ fn give_complaint<T: Taker>(why: Complaint, t: Tty, out: &mut T) -> Result<(), F
     give_text(out, t, b"\r\n@")
 }
 
-// Gives what a command prints.
-fn give_told<P: Pages, T: Taker>(
+/// Gives what a command prints.
+pub fn give_told<P: Pages, T: Taker>(
     system: &System<P>,
     t: Tty,
     told: Told,

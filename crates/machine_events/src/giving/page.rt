@@ -8,7 +8,7 @@ ghost use Rattle.machine_names.specs.Bounds.{IsFileName};
 ghost use Rattle.machine_names.specs.declared.names.TheConstants.{SPACE_PAGES};
 ghost use Rattle.step_shown.specs.Replies.{page_items};
 ghost use Rattle.step_shown.specs.declared.reply.Reply.{Reply as AReply};
-ghost use Rattle.monitor_core.specs.Needing.{CanShow, IsInFrames};
+ghost use Rattle.monitor_core.specs.Needing.{IsInFrames, ShownAt};
 ghost use Rattle.monitor_core.specs.Systems.{FitsPages, state_of};
 ghost use Rattle.machine_events.specs.Giving.{TookOver};
 
@@ -18,17 +18,16 @@ use outside::{Failed, PAGE_WORDS};
 use page_contracts::{Pages, Peeked};
 use script_texts::{Item, Taker};
 
-// Gives the word at an offset of a page that is in a frame, if it isn't 0.
+// Gives the word at an offset of a page, if it isn't 0. It is so over each drum over which the page is in a frame.
 fn give_word<P: Pages, T: Taker>(
     pages: &P,
     at: Place,
     offset: u16,
     out: &mut T,
 ) -> Result<(), Failed>
-    requires there { IsInFrames P.means pages.now at }
     requires place { IsPlace (P.means.lives pages.now) at }
     requires offset { offset < WORDS }
-    ensures { TookOver (P.means.fits pages.now) T.fault_count T.onward T.stands T.cut out.old out.new result
+    ensures { TookOver (λ d. P.means.fits pages.now d × IsInFrames P.means pages.now d at) T.fault_count T.onward T.stands T.cut out.old out.new result
         (λ d. words_shown offset (word_at (P.means.plain pages.now d) (spot_of at) offset ∷ [])) [] }
 {
     match pages.peek(at, offset) {
@@ -39,16 +38,15 @@ fn give_word<P: Pages, T: Taker>(
             out.item(Item::PageWord(offset, word))
         }
         Peeked::NoPage => Ok(()),
-        // It is in a frame.
+        // It comes over no such drum.
         Peeked::Absent(_) => Ok(()),
     }
 }
 
-// Gives the words of a page that aren't 0, each with its offset. The page is in a frame.
+// Gives the words of a page that aren't 0, each with its offset, over each drum over which it is in a frame.
 fn give_words<P: Pages, T: Taker>(pages: &P, at: Place, out: &mut T) -> Result<(), Failed>
-    requires there { IsInFrames P.means pages.now at }
     requires place { IsPlace (P.means.lives pages.now) at }
-    ensures { TookOver (P.means.fits pages.now) T.fault_count T.onward T.stands T.cut out.old out.new result
+    ensures { TookOver (λ d. P.means.fits pages.now d × IsInFrames P.means pages.now d at) T.fault_count T.onward T.stands T.cut out.old out.new result
         (λ d. words_shown 0 (words_at (P.means.plain pages.now d) (spot_of at))) [] }
 {
     for offset in 0..PAGE_WORDS as u16 {
@@ -57,7 +55,7 @@ fn give_words<P: Pages, T: Taker>(pages: &P, at: Place, out: &mut T) -> Result<(
     Ok(())
 }
 
-/// Gives a file's page, if it is there; it is in a frame.
+/// Gives a file's page, if it is there, over each drum over which it is in a frame.
 #[inline(never)]
 pub fn give_page<P: Pages, T: Taker>(
     system: &System<P>,
@@ -67,8 +65,7 @@ pub fn give_page<P: Pages, T: Taker>(
 ) -> Result<(), Failed>
     requires name { IsFileName name.now }
     requires page { page < SPACE_PAGES }
-    requires shown { CanShow system.now (AReply.Page name.now page) }
-    ensures { TookOver (FitsPages system.now) T.fault_count T.onward T.stands T.cut out.old out.new result (λ d. page_items (state_of system.now d) name.now page) [] }
+    ensures { TookOver (λ d. FitsPages system.now d × ShownAt system.now d (AReply.Page name.now page)) T.fault_count T.onward T.stands T.cut out.old out.new result (λ d. page_items (state_of system.now d) name.now page) [] }
 {
     let Some(file) = system.files().find(name) else {
         return Ok(());

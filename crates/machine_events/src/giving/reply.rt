@@ -4,7 +4,7 @@ ghost use Rattle.script_texts.specs.Limits.{FitsStep};
 ghost use Rattle.script_texts.specs.Follows.{IsTurn};
 ghost use Rattle.machine_events.specs.Giving.{TookAll, TookOver};
 ghost use Rattle.step_shown.specs.Replies.{FitsReply, reply_items};
-ghost use Rattle.monitor_core.specs.Needing.{CanShow};
+ghost use Rattle.monitor_core.specs.Needing.{CanShow, ShownAt};
 ghost use Rattle.monitor_core.specs.Systems.{FitsPages, state_of};
 
 use crate::giving::forks::give_forks;
@@ -30,12 +30,15 @@ fn give_steps<T: Taker>(step: &Step, count: u32, out: &mut T) -> Result<(), Fail
     }
 }
 
-// Gives the items of a reply, one by one; a page among them is in a frame.
+/// Gives the items of a reply, one by one, over each drum over which a page among them is in a frame.
 #[inline(always)]
-fn give<P: Pages, T: Taker>(system: &System<P>, reply: Reply, out: &mut T) -> Result<(), Failed>
+pub fn give_reply<P: Pages, T: Taker>(
+    system: &System<P>,
+    reply: Reply,
+    out: &mut T,
+) -> Result<(), Failed>
     requires reply { FitsReply reply }
-    requires shown { CanShow system.now reply }
-    ensures { TookOver (FitsPages system.now) T.fault_count T.onward T.stands T.cut out.old out.new result (λ d. reply_items (state_of system.now d) reply) [] }
+    ensures { TookOver (λ d. FitsPages system.now d × ShownAt system.now d reply) T.fault_count T.onward T.stands T.cut out.old out.new result (λ d. reply_items (state_of system.now d) reply) [] }
 {
     match reply {
         Reply::Nothing => Ok(()),
@@ -66,6 +69,6 @@ pub fn give_all<P: Pages, T: Taker>(
         return give_steps(step, count, out);
     }
     give_steps(step, count - 1, out)?;
-    give(system, reply, out)?;
+    give_reply(system, reply, out)?;
     out.step(*step)
 }

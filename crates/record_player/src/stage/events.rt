@@ -23,7 +23,11 @@ impl<P: Pages> Stage<P> {
         requires few { self.old.done < 2 ^ 52 }
         ensures { PlayedEvent T.fault_count T.onward T.stands T.cut self.old self.new out.old out.new result e }
     {
-        let reply = self.system.apply(&e);
+        let reply = match self.system.apply(&e) {
+            Ok(reply) => reply,
+            // Pages in memory alone need nothing first.
+            Err(_) => unreachable!(),
+        };
         self.done += 1;
         give_all(&self.system, &Step::Outer(e), 1, reply, out)
     }

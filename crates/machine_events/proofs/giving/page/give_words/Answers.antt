@@ -25,7 +25,7 @@ loop-offset-preserved g c =
       onward = onward_then g.T.Taker.onward _ _ _ i.onward one.taker.goes_on;
       given = λ d f.
           let words = words_at (p d) at in
-          let all = page_fits nat_cmp_total (p d) (g.met.P.Pages.whole c.args.pages.now d f) (page_at (p d) at) in
+          let all = page_fits nat_cmp_total (p d) (g.met.P.Pages.whole c.args.pages.now d f.0) (page_at (p d) at) in
           subst (λ is. GoesOn g.T.Taker.stands c.args.out.now c.give_word.new.out is []) (one_more_word words offset (omega (arith, all, c.loop-offset-test.true)))
           (goes_on_append g.T.Taker.stands c.args.out.now _ c.give_word.new.out (words_shown 0 (take offset words)) (words_shown offset (slice_index words offset ∷ [])) [] [] (i.given d f) (one.given d f).ok);
     }
@@ -46,7 +46,7 @@ returns-in_err-give_word g c =
       given = λ d f.
           let p = g.P.Pages.means.plain c.args.pages.now d in
           let words = words_at p at in
-          let all = page_fits nat_cmp_total p (g.met.P.Pages.whole c.args.pages.now d f) (page_at p at) in
+          let all = page_fits nat_cmp_total p (g.met.P.Pages.whole c.args.pages.now d f.0) (page_at p at) in
           let rest = words_shown (offset + 1) (drop (offset + 1) words) in
           subst (λ is. Takes g.T.Taker.stands g.T.Taker.cut c.args.out.now c.give_word.new.out r is []) (sym (words_split words offset (omega (arith, all, c.loop-offset-test.true))))
           (takes_then g.T.Taker.stands g.T.Taker.cut c.args.out.now _ c.give_word.new.out r (words_shown 0 (take offset words)) (words_shown offset (slice_index words offset ∷ []) ++ rest) [] [] (i.given d f)
@@ -61,6 +61,6 @@ returns g c =
       taker = record { later = i.later; cause = tt; goes_on = i.onward };
       given = λ d f.
           let p = g.P.Pages.means.plain c.args.pages.now d in
-          let all = page_fits nat_cmp_total p (g.met.P.Pages.whole c.args.pages.now d f) (page_at p at) in
+          let all = page_fits nat_cmp_total p (g.met.P.Pages.whole c.args.pages.now d f.0) (page_at p at) in
           record { ok = subst (λ ws. GoesOn g.T.Taker.stands c.args.out.now c.loop-offset.out (words_shown 0 ws) []) (all_words (words_at p at) c.loop-offset.offset (omega (arith, all, i.last, c.loop-offset-test.false))) (i.given d f); err = tt };
     }

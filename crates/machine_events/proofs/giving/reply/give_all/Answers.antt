@@ -25,19 +25,19 @@ returns-in_err-give_steps g c =
           (takes_part g.T.Taker.stands g.T.Taker.cut _ _ r [] (reply_items (state_of c.args.system.now d) c.args.reply) _ (step ∷ []) c.from_residual.ensures.0 (failed.given d).err);
     }
 
-pub returns-in_err-give : goal.returns-in_err-give
-returns-in_err-give g c =
+pub returns-in_err-give_reply : goal.returns-in_err-give_reply
+returns-in_err-give_reply g c =
     let step = c.args.step.now in
-    let r = c.from_residual-in_err-give.result in
-    let failed = c.in_err-give.ensures in
+    let r = c.from_residual-in_err-give_reply.result in
+    let failed = c.in_err-give_reply.ensures in
     record {
-      taker = taker_then g.T.Taker.fault_count g.T.Taker.onward c.args.out.now c.give_steps-2.new.out c.give.new.out c.give_steps-2.result r c.give_steps-2.ensures.taker (taker_failed g.T.Taker.fault_count g.T.Taker.onward c.give_steps-2.new.out c.give.new.out _ r failed.taker);
+      taker = taker_then g.T.Taker.fault_count g.T.Taker.onward c.args.out.now c.give_steps-2.new.out c.give_reply.new.out c.give_steps-2.result r c.give_steps-2.ensures.taker (taker_failed g.T.Taker.fault_count g.T.Taker.onward c.give_steps-2.new.out c.give_reply.new.out _ r failed.taker);
       given = λ d f.
           let items = reply_items (state_of c.args.system.now d) c.args.reply in
-          subst (Takes g.T.Taker.stands g.T.Taker.cut c.args.out.now c.give.new.out r items) (last_of c.args.count step c.requires.some)
+          subst (Takes g.T.Taker.stands g.T.Taker.cut c.args.out.now c.give_reply.new.out r items) (last_of c.args.count step c.requires.some)
           (takes_then g.T.Taker.stands g.T.Taker.cut _ _ _ r [] items _ (step ∷ []) (c.in_ok-give_steps.ensures.given d).ok
-          (subst (λ is. Takes g.T.Taker.stands g.T.Taker.cut c.give_steps-2.new.out c.give.new.out r is (step ∷ [])) (append-nil items)
-          (takes_part g.T.Taker.stands g.T.Taker.cut _ _ r items [] [] (step ∷ []) c.from_residual-in_err-give.ensures.0 (failed.given d f).err)));
+          (subst (λ is. Takes g.T.Taker.stands g.T.Taker.cut c.give_steps-2.new.out c.give_reply.new.out r is (step ∷ [])) (append-nil items)
+          (takes_part g.T.Taker.stands g.T.Taker.cut _ _ r items [] [] (step ∷ []) c.from_residual-in_err-give_reply.ensures.0 (failed.given d (f, c.requires.shown d f)).err)));
     }
 
 pub returns : goal.returns
@@ -45,11 +45,11 @@ returns g c =
     let step = c.args.step.now in
     let r = c.step.result in
     record {
-      taker = taker_then g.T.Taker.fault_count g.T.Taker.onward c.args.out.now c.give_steps-2.new.out c.step.new.self c.give_steps-2.result r c.give_steps-2.ensures.taker (taker_then g.T.Taker.fault_count g.T.Taker.onward c.give_steps-2.new.out c.give.new.out c.step.new.self c.give.result r c.give.ensures.taker (record { later = c.step.ensures.later; cause = c.step.ensures.cause; goes_on = c.step.ensures.onward }));
+      taker = taker_then g.T.Taker.fault_count g.T.Taker.onward c.args.out.now c.give_steps-2.new.out c.step.new.self c.give_steps-2.result r c.give_steps-2.ensures.taker (taker_then g.T.Taker.fault_count g.T.Taker.onward c.give_steps-2.new.out c.give_reply.new.out c.step.new.self c.give_reply.result r c.give_reply.ensures.taker (record { later = c.step.ensures.later; cause = c.step.ensures.cause; goes_on = c.step.ensures.onward }));
       given = λ d f.
           let items = reply_items (state_of c.args.system.now d) c.args.reply in
           subst (Takes g.T.Taker.stands g.T.Taker.cut c.args.out.now c.step.new.self r items) (last_of c.args.count step c.requires.some)
           (takes_then g.T.Taker.stands g.T.Taker.cut _ _ _ r [] items _ (step ∷ []) (c.in_ok-give_steps.ensures.given d).ok
           (subst (λ is. Takes g.T.Taker.stands g.T.Taker.cut c.give_steps-2.new.out c.step.new.self r is (step ∷ [])) (append-nil items)
-          (takes_then g.T.Taker.stands g.T.Taker.cut _ _ _ r items [] [] (step ∷ []) (c.in_ok-give.ensures.given d f).ok (record { ok = c.step.ensures.ok; err = c.step.ensures.err }))));
+          (takes_then g.T.Taker.stands g.T.Taker.cut _ _ _ r items [] [] (step ∷ []) (c.in_ok-give_reply.ensures.given d (f, c.requires.shown d f)).ok (record { ok = c.step.ensures.ok; err = c.step.ensures.err }))));
     }

@@ -34,14 +34,14 @@ returns-in-Is-clause-did g c =
     page_is_shown m f c.args.page found.0 _ (file_there m.files f found.0) seen.page d fits seen.is)
 
 pub returns-in-Is-clause-shown : goal.returns-in-Is-clause-shown
-returns-in-Is-clause-shown g c k there is d fits =
+returns-in-Is-clause-shown g c d fits k there is =
     let m = c.args.self.now in
     let f = c.in-Some.file.0 in
     let found = c.in-Some.ensures.found in
     let p = g.P.Pages.means.plain m.pages d in
     let scene = g.P.Pages.means.scene m.pages in
     let same : f ≡ k = same_file m.files f k c.args.name.now found.0 found.1 there is in
-    let seen = word_seen p scene (in_file (file_page f c.args.page)) 0 c.in-Is.field-0 (c.in-Is.ensures.told d fits) in
+    let seen = word_seen p scene (in_file (file_page f c.args.page)) 0 c.in-Is.field-0 (c.in-Is.ensures.told d fits.pages) in
     (refl, subst (λ n. page_away p scene (in_file (file_page n c.args.page)) ≡ None) same seen.here)
 
 pub returns-in-NoPage-clause-did : goal.returns-in-NoPage-clause-did

@@ -61,3 +61,6 @@ returns-in-Err-give_all g c = record {
     cut_in = units_cut g.T.Taker.stands g.T.Taker.cut c.args.self.now c.run_fork.new.self c.args.out.now c.give_all.new.out c.in-Some.who.fork c.args.fork c.in-Some.ensures.1 c.in-Ok.row.count c.in-Ok.row.reply c.in-Ok.ensures.did (λ d f. (c.in-Err-give_all.ensures.given d f).err);
   };
 }
+
+pub give_all-requires-clause-shown : goal.give_all-requires-clause-shown
+give_all-requires-clause-shown g c = c.in-Ok.ensures.shown
