@@ -18,6 +18,7 @@ pub mod EventDid
 pub mod BootDid
 mod HasDone
 mod CharacterDid
+mod CharacterParts
 mod DeleteDid
 mod EndDid
 mod TypeDid

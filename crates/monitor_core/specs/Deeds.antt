@@ -27,6 +27,7 @@ use Rattle.job_commands.specs.Needing.{NeedsFilePage, NeedsLast, NeedsMap}
 use Rattle.step_shown.specs.declared.echo.Echo.{Echo as Echoed}
 use Rattle.step_shown.specs.declared.echo.Echo.TheVariants.{Ends}
 use Rattle.step_shown.specs.declared.echo.Told.{Told as Printed}
+use Rattle.step_shown.specs.declared.echo.Told.TheVariants.{Nothing as Silent}
 use Rattle.step_shown.specs.Echoes.{FitsEcho}
 use Rattle.step_shown.specs.Reaching.{EchoReaches}
 use Rattle.monitor_calls.specs.declared.job.Job.{Job}
@@ -68,6 +69,43 @@ abbrev pub PartReaches : Showing → ForkMap → ForkMap → Type 0
 PartReaches (Reply reply) old new = ⊥
 PartReaches (Echo t shown) old new = EchoReaches t shown old new
 PartReaches (Told t shown) old new = OthersStay t old new
+
+-- a character shows what its terminal shows of it; where a command comes next, that is the end of its line alone
+abbrev pub IsShownSo : Tty → Option Deed → Showing → Type 0
+IsShownSo t next (Reply reply) = ⊥
+IsShownSo t None (Echo u shown) = u ≡ t
+IsShownSo t (Some next) (Echo u shown) = (u ≡ t) × (shown ≡ Ends Silent)
+IsShownSo t next (Told u shown) = ⊥
+
+-- a part of a command prints at a terminal
+abbrev pub IsPrinted : Tty → Showing → Type 0
+IsPrinted t (Reply reply) = ⊥
+IsPrinted t (Echo u shown) = ⊥
+IsPrinted t (Told u shown) = u ≡ t
+
+-- a deed is a part of a command of a terminal
+abbrev pub IsBehind : Tty → Deed → Type 0
+IsBehind t (Begin u name) = u ≡ t
+IsBehind t (Kill u purpose) = u ≡ t
+IsBehind t (End u purpose) = u ≡ t
+IsBehind t other = ⊥
+
+-- the first part of a character
+pub record IsEchoed (t : Tty) (answer : Answer) : Type 0 where
+  pub shown : IsShownSo t answer.next answer.showing
+  pub next : IfSome answer.next (IsBehind t)
+
+-- a part of a command prints at its terminal, and another comes next, or none
+pub record Prints (t : Tty) (answer : Answer) : Type 0 where
+  pub shown : IsPrinted t answer.showing
+  pub next : IfSome answer.next (IsBehind t)
+
+-- so does each part of one
+abbrev pub PartPrints : Deed → Answer → Type 0
+PartPrints (Begin t name) answer = Prints t answer
+PartPrints (Kill t purpose) answer = Prints t answer
+PartPrints (End t purpose) answer = Prints t answer
+PartPrints other answer = Unit {0}
 
 -- the deed that a command begins, where it isn't done at once
 abbrev pub begins_with : map.FinMap name_cmp PlainFile → Tty → Command → Option Deed

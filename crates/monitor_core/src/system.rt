@@ -43,3 +43,4 @@ mod login;
 mod parts;
 mod running;
 mod transfers;
+mod typing;

@@ -13,7 +13,7 @@ ghost use Rattle.fork_tree.specs.Trees.{IsTree};
 ghost use Rattle.plain_model.specs.TypeEvents.{interrupted, line_of, line_typed, posted_at, typed_so};
 ghost use Rattle.event_deeds.specs.Deeds.{deed as deed_of, line_begun, typed_by};
 ghost use Rattle.event_deeds.specs.declared.deed.Deed.TheVariants.{Typed as ATyped};
-ghost use Rattle.monitor_core.specs.Deeds.{Does, FitsAnswer, PartReaches, line_end, once};
+ghost use Rattle.monitor_core.specs.Deeds.{Does, FitsAnswer, IsEchoed, PartReaches, line_end, once};
 ghost use Rattle.step_shown.specs.Echoes.{echo_items, FitsEcho};
 ghost use Rattle.monitor_core.specs.Effects.{Has, HasJobAt, job_in, stopped_tree};
 ghost use Rattle.monitor_calls.specs.Jobs.{job_at};
@@ -193,6 +193,7 @@ impl<P: Pages> System<P> {
         ensures does { Does self.old self.new (λ s. line_begun s t (job_in self.old t job.now)) result }
         ensures fits { FitsAnswer result }
         ensures others { PartReaches result.showing self.old.tree.forks self.new.tree.forks }
+        ensures echoed { IsEchoed t result }
     {
         let command = self.take_line(t, job);
         match self.begins(t, &command) {
@@ -212,6 +213,7 @@ impl<P: Pages> System<P> {
         ensures does { Does self.old self.new (λ s. typed_by AMode.Command s t (job_in self.old t job) code) result }
         ensures fits { FitsAnswer result }
         ensures others { PartReaches result.showing self.old.tree.forks self.new.tree.forks }
+        ensures echoed { IsEchoed t result }
     {
         if code == CONTROL_C {
             let shown = self.interrupt(t, job);
@@ -226,12 +228,13 @@ impl<P: Pages> System<P> {
 
     /// A character is typed at a terminal. Where it ends a line that runs a program that is there, or logs out, the line is taken, and no more is done: that
     /// comes next. Once its job is gone, nothing is done.
-    pub(crate) fn type_one(&mut self, t: Tty, c: u8) -> Answer
+    pub(crate) fn type_first(&mut self, t: Tty, c: u8) -> Answer
         requires terminal { IsTerminal t }
         requires code { c < 128 }
         ensures does { Does self.old self.new (λ s. deed_of s (ATyped t c)) result }
         ensures fits { FitsAnswer result }
         ensures others { PartReaches result.showing self.old.tree.forks self.new.tree.forks }
+        ensures echoed { IsEchoed t result }
     {
         match self.jobs[t.0 as usize] {
             Some(job) => match job.mode {

@@ -6,7 +6,7 @@ ghost use Rattle.plain_model.specs.Commands.{commanded, delete_file as delete_fi
 ghost use Rattle.event_deeds.specs.Deeds.{IsNext};
 ghost use Rattle.file_tables.specs.Tables.{files_of};
 ghost use Rattle.step_shown.specs.Echoes.{told_items};
-ghost use Rattle.monitor_core.specs.Deeds.{begins_with};
+ghost use Rattle.monitor_core.specs.Deeds.{IsBehind, begins_with};
 ghost use Rattle.monitor_core.specs.Effects.{Has, HasJobAt, job_in};
 
 use crate::system::System;
@@ -25,6 +25,7 @@ impl<P: Pages> System<P> {
         requires terminal { IsTerminal t }
         ensures begins { result ≡ begins_with (files_of self.now.files) t command.now }
         ensures fits { IfSome result IsNext }
+        ensures behind { IfSome result (IsBehind t) }
     {
         match command {
             Command::Run(name) => match self.files.find(name) {

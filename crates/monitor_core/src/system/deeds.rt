@@ -7,7 +7,7 @@ ghost use Rattle.event_deeds.specs.Leaves.{last_below as last_below_of};
 ghost use Rattle.event_deeds.specs.declared.deed.Deed.TheVariants.{Begin as ABegin, End as AnEnd, Kill as AKill};
 ghost use Rattle.event_deeds.specs.declared.deed.Purpose.{Purpose as APurpose};
 ghost use Rattle.job_commands.specs.Needing.{NeedsLast, NeedsMap};
-ghost use Rattle.monitor_core.specs.Deeds.{Does, FitsAnswer, NeedsFirstPage, PartNeeds, PartReaches};
+ghost use Rattle.monitor_core.specs.Deeds.{Does, FitsAnswer, NeedsFirstPage, PartNeeds, PartPrints, PartReaches, Prints};
 ghost use Rattle.monitor_core.specs.Effects.{HasJobAt, job_in};
 ghost use Rattle.monitor_core.specs.Systems.{Waits, event_frames};
 
@@ -51,6 +51,7 @@ impl<P: Pages> System<P> {
         ensures does { IfOk result (Does self.now self.now (λ s. begun s t name.now)) }
         ensures fits { IfOk result FitsAnswer }
         ensures others { IfOk result (λ answer. PartReaches answer.showing self.now.tree.forks self.now.tree.forks) }
+        ensures printed { IfOk result (Prints t) }
         ensures waits { IfErr result (Waits event_frames self.now self.now) }
         ensures needs { IfErr result (NeedsFirstPage self.now name.now) }
         ensures core { P.means.flat ≡ true → IsOk result }
@@ -76,6 +77,7 @@ impl<P: Pages> System<P> {
         ensures does { IfOk result (Does self.old self.new (λ s. one_killed s t purpose job.top)) }
         ensures fits { IfOk result FitsAnswer }
         ensures others { IfOk result (λ answer. PartReaches answer.showing self.old.tree.forks self.new.tree.forks) }
+        ensures printed { IfOk result (Prints t) }
         ensures waits { IfErr result (Waits event_frames self.old self.new) }
         ensures needs { IfErr result (NeedsLast P.means self.old.pages (last_below_of self.old.tree.forks job.top)) }
         ensures core { P.means.flat ≡ true → IsOk result }
@@ -98,6 +100,7 @@ impl<P: Pages> System<P> {
         ensures does { IfOk result (Does self.old self.new (λ s. over (record { state = purpose_done s t (job_in self.old t job) (APurpose.Run name.now address); items = [] }))) }
         ensures fits { IfOk result FitsAnswer }
         ensures others { IfOk result (λ answer. PartReaches answer.showing self.old.tree.forks self.new.tree.forks) }
+        ensures printed { IfOk result (Prints t) }
         ensures waits { IfErr result (Waits event_frames self.old self.new) }
         ensures needs { IfErr result (NeedsMap P.means self.old.pages job.top) }
         ensures core { P.means.flat ≡ true → IsOk result }
@@ -129,6 +132,7 @@ impl<P: Pages> System<P> {
         ensures does { IfOk result (Does self.old self.new (λ s. over (record { state = purpose_done s t (job_in self.old t job) APurpose.Logout; items = [] }))) }
         ensures fits { IfOk result FitsAnswer }
         ensures others { IfOk result (λ answer. PartReaches answer.showing self.old.tree.forks self.new.tree.forks) }
+        ensures printed { IfOk result (Prints t) }
         ensures waits { IfErr result (Waits event_frames self.old self.new) }
         ensures needs { IfErr result (NeedsMap P.means self.old.pages job.top) }
         ensures core { P.means.flat ≡ true → IsOk result }
@@ -152,6 +156,7 @@ impl<P: Pages> System<P> {
         ensures does { IfOk result (Does self.old self.new (λ s. all_done s t (job_in self.old t job) purpose.now)) }
         ensures fits { IfOk result FitsAnswer }
         ensures others { IfOk result (λ answer. PartReaches answer.showing self.old.tree.forks self.new.tree.forks) }
+        ensures printed { IfOk result (Prints t) }
         ensures waits { IfErr result (Waits event_frames self.old self.new) }
         ensures needs { IfErr result (NeedsMap P.means self.old.pages job.top) }
         ensures core { P.means.flat ≡ true → IsOk result }
@@ -173,6 +178,7 @@ impl<P: Pages> System<P> {
         ensures does { IfOk result (Does self.old self.new (λ s. deed_of s (ABegin t name.now))) }
         ensures fits { IfOk result FitsAnswer }
         ensures others { IfOk result (λ answer. PartReaches answer.showing self.old.tree.forks self.new.tree.forks) }
+        ensures printed { IfOk result (Prints t) }
         ensures waits { IfErr result (Waits event_frames self.old self.new) }
         ensures needs { IfErr result (PartNeeds self.old (ABegin t name.now)) }
         ensures core { P.means.flat ≡ true → IsOk result }
@@ -190,6 +196,7 @@ impl<P: Pages> System<P> {
         ensures does { IfOk result (Does self.old self.new (λ s. deed_of s (AKill t purpose))) }
         ensures fits { IfOk result FitsAnswer }
         ensures others { IfOk result (λ answer. PartReaches answer.showing self.old.tree.forks self.new.tree.forks) }
+        ensures printed { IfOk result (Prints t) }
         ensures waits { IfErr result (Waits event_frames self.old self.new) }
         ensures needs { IfErr result (PartNeeds self.old (AKill t purpose)) }
         ensures core { P.means.flat ≡ true → IsOk result }
@@ -207,6 +214,7 @@ impl<P: Pages> System<P> {
         ensures does { IfOk result (Does self.old self.new (λ s. deed_of s (AnEnd t purpose.now))) }
         ensures fits { IfOk result FitsAnswer }
         ensures others { IfOk result (λ answer. PartReaches answer.showing self.old.tree.forks self.new.tree.forks) }
+        ensures printed { IfOk result (Prints t) }
         ensures waits { IfErr result (Waits event_frames self.old self.new) }
         ensures needs { IfErr result (PartNeeds self.old (AnEnd t purpose.now)) }
         ensures core { P.means.flat ≡ true → IsOk result }
@@ -224,12 +232,13 @@ impl<P: Pages> System<P> {
         ensures does { IfOk result (Does self.old self.new (λ s. deed_of s deed.now)) }
         ensures fits { IfOk result FitsAnswer }
         ensures others { IfOk result (λ answer. PartReaches answer.showing self.old.tree.forks self.new.tree.forks) }
+        ensures printed { IfOk result (PartPrints deed.now) }
         ensures waits { IfErr result (Waits event_frames self.old self.new) }
         ensures needs { IfErr result (PartNeeds self.old deed.now) }
         ensures core { P.means.flat ≡ true → IsOk result }
     {
         match deed {
-            Deed::Typed(t, code) => Ok(self.type_one(*t, *code)),
+            Deed::Typed(t, code) => Ok(self.type_first(*t, *code)),
             Deed::Begin(t, name) => self.begin(*t, name),
             Deed::Kill(t, purpose) => self.kill(*t, *purpose),
             Deed::End(t, purpose) => self.end(*t, purpose),

@@ -1,27 +1,23 @@
-use Rattle.std.proofs.Common.{◌∙◌, sym, subst}
-use Rattle.event_deeds.specs.Deeds.{deed}
-use Rattle.event_deeds.specs.declared.deed.Deed.TheVariants.{Typed}
-use Rattle.monitor_core.specs.Deeds.{Does}
-use Rattle.monitor_core.proofs.CharacterDid.{does_in_line, does_in_program, types_nothing}
-use Rattle.monitor_calls.proofs.Sounds.{entry_read, job_read}
+use Rattle.std.proofs.Common.{subst}
+use Rattle.plain_model.specs.TypeEvents.{typed_at}
+use Rattle.step_shown.specs.Echoes.{echo_items}
+use Rattle.step_shown.specs.declared.echo.Echo.{Echo as Echoed}
+use Rattle.monitor_core.specs.Effects.{Has}
+use Rattle.monitor_core.proofs.CharacterParts.{has_ended, has_once, shown_end, shown_once}
 use Rattle.monitor_core.proofs.system.System.type_one.Goals as goal
 
-pub returns-in-Program-clause-does : goal.returns-in-Program-clause-does
-returns-in-Program-clause-does g c =
-    let m = c.args.self.now in
-    let last = c.type_program-shown.new.self in
-    subst (Does m last (λ s. deed s (Typed c.args.t c.args.c))) (sym c.echoed.ensures)
-    (does_in_program m last c.args.t c.in-Some.job
-    (job_read m.jobs.items c.args.t.0 c.index.result.now c.in-Some.job m.sound.job_room c.requires.terminal c.index.ensures c.in-Some.is) c.args.c c.type_program-shown.result c.in-Program.is c.type_program-shown.ensures.has)
+pub returns-in-Some-clause-has : goal.returns-in-Some-clause-has
+returns-in-Some-clause-has g c =
+    let first = c.type_first-first.result in
+    let e = c.type_first-first.ensures in
+    has_ended c.args.self.now c.type_first-first.new.self c.end_command.new.self c.args.t c.args.c c.in-Some.next first c.end_command.result c.are_trees.ensures c.in-Some.is
+    (shown_end c.args.t c.in-Some.next first.next first.showing c.in-Some.is e.echoed.shown) e.does c.end_command.ensures.has
 
-pub returns-in-Command-clause-does : goal.returns-in-Command-clause-does
-returns-in-Command-clause-does g c =
+pub returns-in-Echo-clause-has : goal.returns-in-Echo-clause-has
+returns-in-Echo-clause-has g c =
     let m = c.args.self.now in
-    does_in_line m c.type_line.new.self c.args.t c.in-Some.job
-    (job_read m.jobs.items c.args.t.0 c.index.result.now c.in-Some.job m.sound.job_room c.requires.terminal c.index.ensures c.in-Some.is) c.args.c c.type_line.result c.read_as.result c.read_as.ensures c.in-Command.is c.type_line.ensures.does
-
-pub returns-in-None-clause-does : goal.returns-in-None-clause-does
-returns-in-None-clause-does g c =
-    let m = c.args.self.now in
-    subst (Does m m (λ s. deed s (Typed c.args.t c.args.c))) (sym c.echoed-in-None.ensures)
-    (types_nothing m c.args.t (entry_read m.jobs.items c.args.t.0 c.index.result.now m.sound.job_room c.requires.terminal c.index.ensures ∙ c.in-None.is) c.args.c)
+    let n = c.type_first-first.new.self in
+    let first = c.type_first-first.result in
+    let e = c.type_first-first.ensures in
+    subst (λ (x : Echoed). Has m n (λ s. typed_at s c.args.t c.args.c) (echo_items c.args.t x)) c.in-Echo.shown-is
+    (has_once m n c.args.t c.in-Echo.field-0 c.args.c c.in-Echo.shown first c.are_trees.ensures c.in-None.is c.in-Echo.is (shown_once c.args.t c.in-Echo.field-0 first.next first.showing c.in-Echo.shown c.in-None.is c.in-Echo.is e.echoed.shown) e.does)
