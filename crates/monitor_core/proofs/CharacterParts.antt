@@ -140,8 +140,7 @@ module _ {P : Type 0} {b : _} where
             let k = rest.each words e.0 in
             let s = state_of m words in
             let goes : (deed s d).next ≡ Some next = sym (does.next words f) ∙ follows in
-            let whole : deeds left s d ≡ both (effect_of (deed s d)) (λ u. deeds (left - 1) u next) = deeds_from left s d some ∙ ap (λ o. both (effect_of (deed s d)) (later (left - 1) o)) goes in
-            (
+            let whole : deeds left s d ≡ both (effect_of (deed s d)) (λ u. deeds (left - 1) u next) = deeds_from left s d some ∙ ap (λ o. both (effect_of (deed s d)) (later (left - 1) o)) goes in (
               k.0,
               k.1 ∙ ap (λ u. (deeds (left - 1) u next).state) e.1 ∙ sym (ap (λ (x : Effect). x.state) whole),
               ap (λ items. first ++ items) (k.2 ∙ ap (λ u. (deeds (left - 1) u next).items) e.1)

@@ -9,14 +9,13 @@ use Rattle.page_contracts.specs.DrumWords.{DrumWords, Stands}
 use Rattle.plain_model.specs.Run.{AreLegal, items_of, state_after}
 use Rattle.event_deeds.specs.declared.deed.Deed.{Deed}
 use Rattle.event_deeds.specs.Deeds.{Task, deed_of, entries_of, unit_of}
-use Rattle.event_deeds.specs.Showings.{FitsShowing}
 use Rattle.step_shown.specs.declared.progress.Progress.{Progress}
 use Rattle.event_deeds.specs.declared.answer.Answer.{Answer}
 use Rattle.event_deeds.specs.declared.answer.Showing.TheVariants as showing
 use Rattle.page_waits.specs.declared.turn.Turn.{Turn}
 use Rattle.page_waits.specs.declared.turn.Turn.TheVariants as turn
 use Rattle.page_waits.specs.Left.{left}
-use Rattle.page_waits.specs.Systems.{DidAcross, SystemMeaning, SameOver, StaysTold, row_of}
+use Rattle.page_waits.specs.Systems.{DidAcross, FitsShowing, SameOver, StaysTold, SystemMeaning, row_of}
 use Rattle.page_waits.specs.Waits.{ListsMeaning, waits_with}
 
 -- the mark by which idle entries are judged: without frames no fork waits for a transfer

@@ -1,6 +1,6 @@
 -- What the clauses say of a system: the pages, the jobs with their forks, the files and the clock, of which a part is in core.
 use Rattle.std.specs.Prelude.{◌≡◌, ℕ, ◌+◌, ◌≤◌, List, length, true, false, IfSome, Option, replicate}
-use Rattle.machine_names.specs.Bounds.{IsForkName}
+use Rattle.machine_names.specs.Bounds.{IsForkName, IsTerminal}
 use Rattle.machine_names.specs.declared.names.ForkName.{ForkName}
 use Rattle.script_texts.specs.declared.event.Item.{Item}
 use Rattle.script_texts.specs.declared.event.Step.{Step}
@@ -16,9 +16,10 @@ use Rattle.plain_model.specs.Trees.{PlainTree}
 use Rattle.plain_model.specs.Run.{AreLegal, items_of, state_after}
 use Rattle.event_deeds.specs.declared.deed.Deed.{Deed}
 use Rattle.event_deeds.specs.Deeds.{IsNext, Task, deed, deed_of, entries_of, unit_of}
-use Rattle.event_deeds.specs.Showings.{FitsShowing}
 use Rattle.page_waits.specs.Seats.{UNHELD_FRAMES, has}
 use Rattle.step_shown.specs.declared.progress.Progress.{Progress}
+use Rattle.step_shown.specs.Echoes.{FitsEcho}
+use Rattle.step_shown.specs.Replies.{FitsReply}
 use Rattle.event_deeds.specs.declared.answer.Answer.{Answer}
 use Rattle.event_deeds.specs.declared.answer.Showing.{Showing}
 use Rattle.event_deeds.specs.declared.answer.Showing.TheVariants as showing
@@ -59,6 +60,12 @@ pub record SystemMeaning (S : Type 0) : Type 1 where
   pub items : PlainState → Showing → List Item
   -- over the words of a drum what is shown can be given: a page that is shown is in a frame
   pub gives : S → DrumWords → Showing → Type 0
+
+-- the limits of what is shown
+abbrev pub FitsShowing : Showing → Type 0
+FitsShowing (showing.Reply reply) = FitsReply reply
+FitsShowing (showing.Echo t shown) = IsTerminal t × FitsEcho shown
+FitsShowing (showing.Told t shown) = IsTerminal t
 
 -- so many units of a fork
 abbrev pub row_of : ForkName → ℕ → List Step

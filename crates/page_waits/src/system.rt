@@ -1,7 +1,6 @@
 // The pages, the jobs with their forks, the files and the clock.
 ghost use Rattle.std.specs.Prelude.{◌≡◌, ◌↔◌, ◌<◌, ◌-◌, ◌≤◌, ◌^◌, ℕ, [], false, length, true, Err, IfErr, IfOk, OnErr, OnOk, is_some};
 ghost use Rattle.std.specs.FinMap as map;
-ghost use Rattle.event_deeds.specs.Showings.{FitsShowing};
 ghost use Rattle.event_deeds.specs.Deeds.{FitsDeed, IsTold, Task, deed_of, unit_of};
 ghost use Rattle.event_deeds.specs.declared.deed.Deed.{Deed as ADeed};
 ghost use Rattle.fork_lists.specs.Ties.{AreTied};
@@ -22,7 +21,7 @@ ghost use Rattle.plain_model.specs.Trees.{tree_of};
 ghost use Rattle.script_texts.specs.Taker.{GoesOn, IsCut, StaysOnward};
 ghost use Rattle.turn_forms.specs.Turns.{moved};
 ghost use Rattle.page_waits.specs.Seats.{has};
-ghost use Rattle.page_waits.specs.Systems.{DidDeed, DidUnits, IsHoused, Needs, StaysOver, StaysState, StaysTold, SystemMeaning, most_wanted};
+ghost use Rattle.page_waits.specs.Systems.{DidDeed, DidUnits, FitsShowing, IsHoused, Needs, StaysOver, StaysState, StaysTold, SystemMeaning, most_wanted};
 
 use event_deeds::{Answer, Deed, Showing};
 use fork_lists::ForkLists;

@@ -1,10 +1,9 @@
 // Steps, given to a taker behind what the last of them shows.
 ghost use Rattle.std.specs.Prelude.{◌≡◌, ◌<◌, ◌≤◌, ◌∷◌, [], OnErr, OnOk, replicate};
-ghost use Rattle.event_deeds.specs.Showings.{FitsShowing};
 ghost use Rattle.machine_names.specs.Bounds.{IsForkName};
 ghost use Rattle.outside.specs.Faults.{Rose};
 ghost use Rattle.page_contracts.specs.DrumWords.{DrumWords};
-ghost use Rattle.page_waits.specs.Systems.{row_of};
+ghost use Rattle.page_waits.specs.Systems.{FitsShowing, row_of};
 ghost use Rattle.event_deeds.specs.declared.answer.Showing.{Showing as AShowing};
 ghost use Rattle.script_texts.specs.Follows.{IsTurn};
 ghost use Rattle.script_texts.specs.Limits.{FitsCause, FitsStep};

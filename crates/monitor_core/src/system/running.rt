@@ -6,6 +6,7 @@ ghost use Rattle.monitor_calls.specs.Limits.{unit_frames};
 ghost use Rattle.step_shown.specs.Reaching.{EventReaches, Reaches};
 ghost use Rattle.step_shown.specs.Replies.{line_before};
 ghost use Rattle.step_shown.specs.Runners.{IsRunner, told_at};
+ghost use Rattle.turn_forms.specs.Turns.{KeepSlots};
 ghost use Rattle.page_contracts.specs.Pages.{MayLose};
 ghost use Rattle.monitor_core.specs.Needing.{CanShow, ForkNeeds};
 ghost use Rattle.monitor_core.specs.Systems.{DidAll, IsWithin, Waits};

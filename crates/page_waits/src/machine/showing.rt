@@ -1,11 +1,11 @@
 // What a machine shows, and what is told of it without a drum.
 ghost use Rattle.std.specs.Prelude.{◌≡◌, ◌≤◌, [], OnErr, OnOk, is_some};
 ghost use Rattle.std.specs.FinMap as map;
-ghost use Rattle.event_deeds.specs.Showings.{FitsShowing};
 ghost use Rattle.fork_tree.specs.Trees.{IsTree};
 ghost use Rattle.machine_names.specs.Bounds.{IsTerminal};
 ghost use Rattle.outside.specs.Faults.{Rose};
 ghost use Rattle.page_contracts.specs.DrumWords.{DrumWords};
+ghost use Rattle.page_waits.specs.Systems.{FitsShowing};
 ghost use Rattle.script_texts.specs.Taker.{GoesOn, IsCut, StaysOnward};
 
 use crate::System;
