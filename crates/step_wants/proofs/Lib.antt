@@ -18,3 +18,6 @@ mod Units
 mod DeedsNamed
 mod UnitsNamed
 mod Wanted
+mod Homing
+mod Rekeyed
+mod SameNames

@@ -2,14 +2,15 @@
 ghost use Rattle.std.specs.Prelude.{◌==◌, ◌<◌, ◌≡◌, ◌+◌, ◌*◌, ◌≤◌, ℕ, Option, Some, List, length, true};
 ghost use Rattle.std.specs.List.{list_any};
 ghost use Rattle.std.specs.Ordering.{nat_cmp};
-ghost use Rattle.std.specs.FinMap.{contains_key, get};
-ghost use Rattle.machine_names.specs.Orders.{FilePage, name_cmp};
+ghost use Rattle.std.specs.FinMap.{FinMap, contains_key, get};
+ghost use Rattle.machine_names.specs.Orders.{FilePage, file_page_cmp, name_cmp};
 ghost use Rattle.machine_names.specs.declared.names.ForkName.{ForkName as AForkName};
 ghost use Rattle.machine_names.specs.declared.names.PageName.{PageName as APageName};
 ghost use Rattle.page_contracts.specs.Pages.{Scene, map_away, page_away};
 ghost use Rattle.page_contracts.specs.declared.answers.Need.TheVariants.{Page};
 ghost use Rattle.page_contracts.specs.declared.store.TheConstants.{MOST_HELD, MOST_HELD_FOR_CONSOLE};
 ghost use Rattle.page_homes.specs.declared.homes.Home.{Home as AHome};
+ghost use Rattle.plain_model.proofs.RefiledCalls.{AreFiled, AreHeld, refiled_all};
 ghost use Rattle.plain_model.specs.ByteCalls.{ByteTurn};
 ghost use Rattle.plain_model.specs.Calls.{Turn, no_files};
 ghost use Rattle.plain_model.specs.Families.{Parts};
@@ -46,6 +47,8 @@ ghost use Rattle.step_wants.specs.Homes.{DeedNeeds, told, wants};
 ghost use Rattle.step_wants.specs.Names.{is_named, names_of_steps, names_of_turn, names_on_way, none_at_end};
 ghost use Rattle.step_wants.specs.Naming.{AreHomed, AskAgainLast};
 ghost use Rattle.step_wants.specs.Wants.{all_referring, first_names, names_of_fork, names_of, names_of_deed, names_of_end, names_of_fork_change, names_of_map_change};
+
+use page_contracts::Pages;
 
 /// The way to a page has at most four maps and one page.
 pub fn a_way_has_five_names()
@@ -155,4 +158,17 @@ pub fn what_is_needed_is_wanted()
     ensures told { (key_of : List ℕ → ℕ) (scene : Scene) (v : Parts nat_cmp) (d : ADeed) (map_home : AForkName → Option ℕ) (page_home : APageName → Option ℕ) (home : ℕ)
         → AreHomed map_home page_home scene → IsTold d → DeedNeeds key_of scene v d home
         → list_any (λ h. h == home) (told map_home page_home key_of (λ at. page_at v.pages (in_file at)) v.tree.forks v.jobs d) ≡ true }
+{}
+
+/// Of pages of which some are in no frame: what is in no frame stands at its home, and only the map of a fork that lives has a home.
+pub fn homes_are_of_pages<P: Pages>()
+    ensures homed { (p : P) → AreHomed (P.means.map_home p) (P.means.page_home p) (P.means.scene p) }
+    ensures living { (p : P) (f : AForkName) (home : ℕ) → P.means.map_home p f ≡ Some home → P.means.lives p f ≡ true }
+{}
+
+/// A unit refers to the same pages and maps, whether files are known by their numbers or by their names: where the files that are there have the same pages under both, and each JFN
+/// stands for a file that is there.
+pub fn names_are_the_same()
+    ensures { (key_of : List ℕ → ℕ) (v : Parts nat_cmp) (filed : FinMap (file_page_cmp name_cmp) APageName) (f : AForkName) → AreFiled nat_cmp name_cmp key_of (λ name. name) v filed → AreHeld v
+        → names_of (λ name. name) (refiled_all name_cmp filed v) (unit_of f) ≡ names_of key_of v (unit_of f) }
 {}

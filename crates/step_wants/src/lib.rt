@@ -6,8 +6,9 @@
 mod laws;
 
 pub use laws::{
-    a_deed_refers_to_few, a_task_wants_few, a_way_has_five_names, steps_refer_to_few,
-    the_tables_tell, wants_are_named, what_deeds_need_is_named, what_fork_turns_need_is_named,
-    what_is_away_is_named, what_is_needed_is_wanted, what_steps_need_is_named,
-    what_turns_need_is_named, what_units_need_is_named,
+    a_deed_refers_to_few, a_task_wants_few, a_way_has_five_names, homes_are_of_pages,
+    names_are_the_same, steps_refer_to_few, the_tables_tell, wants_are_named,
+    what_deeds_need_is_named, what_fork_turns_need_is_named, what_is_away_is_named,
+    what_is_needed_is_wanted, what_steps_need_is_named, what_turns_need_is_named,
+    what_units_need_is_named,
 };
