@@ -62,5 +62,5 @@ returns g c =
           let p = g.P.Pages.means.plain m.pages d in
           let page = page_at_file g.P.Pages.means m.pages p f c.args.page (g.met.P.Pages.agrees m.pages d fits.0.pages) ∙ ap (λ p. g.P.Pages.means.filed p (file_page f c.args.page)) (sym c.pages-pages.ensures) ∙ sym c.page_of.ensures ∙ there.1 in
           subst (λ is. Takes g.T.Taker.stands g.T.Taker.cut c.args.out.now c.give_words.new.out r is []) (sym (some_items m c.args.name.now c.args.page d fits.0 f found.0 found.1 there.0 page))
-          (takes_then g.T.Taker.stands g.T.Taker.cut _ _ _ r (PageLine c.args.name.now c.args.page ∷ []) (words_shown 0 (words_at p (in_file (file_page f c.args.page)))) [] [] c.in_ok-item.ensures.ok (words.given d fits.0.pages));
+          (takes_then g.T.Taker.stands g.T.Taker.cut _ _ _ r (PageLine c.args.name.now c.args.page ∷ []) (words_shown 0 (words_at p (in_file (file_page f c.args.page)))) [] [] c.in_ok-item.ensures.ok (words.given d (fits.0.pages, fits.1 f found.0 found.1)));
     }
