@@ -5,7 +5,7 @@ use Rattle.std.specs.FinMap as fin
 use Rattle.std.proofs.lemmas.List.{append-nil}
 use Rattle.ka10_spots.proofs.Stored.{lost_on}
 use Rattle.deed_laws.proofs.Characters.{characters}
-use Rattle.event_deeds.specs.Deeds.{DeedEffect, all_done, begun, deed, deeds, for_job, goes_on, most_deeds, one_killed, over, purpose_done}
+use Rattle.event_deeds.specs.Deeds.{DeedEffect, all_done, begun, deed, deeds, for_job, goes_on, killed_fork, most_deeds, one_killed, over, purpose_done}
 use Rattle.event_deeds.specs.Leaves.{last_below}
 use Rattle.event_deeds.specs.Showings.{showing_items}
 use Rattle.event_deeds.specs.declared.answer.Answer.{Answer}
@@ -14,6 +14,9 @@ use Rattle.event_deeds.specs.declared.answer.Showing.TheVariants.{Reply, Echo, T
 use Rattle.event_deeds.specs.declared.deed.Deed.{Deed}
 use Rattle.event_deeds.specs.declared.deed.Deed.TheVariants.{Begin, End, Kill, Outer, Typed}
 use Rattle.event_deeds.specs.declared.deed.Purpose.{Purpose}
+use Rattle.event_deeds.specs.declared.deed.Purpose.TheVariants.{Run}
+use Rattle.plain_model.specs.Commands.{start_address, told as told_why}
+use Rattle.std.specs.Prelude.{codes}
 use Rattle.fork_tree.specs.Trees.{IsTree}
 use Rattle.machine_names.specs.declared.character.TheConstants.{LINE_END}
 use Rattle.machine_names.specs.declared.names.PageName.{PageName}
@@ -73,14 +76,14 @@ module _ (s : PlainState) (t : Tty) (next : Deed) where
   quiet_begun : (name : List ℕ) → Quiet (begun s t name)
   quiet_begun name = by (page_at s.pages (page_named name 0))
     where
-      by : (o : Option PageName) → Quiet (option_map_or (λ page. goes_on s (Kill t _)) o (over _))
+      by : (o : Option PageName) → Quiet (option_map_or (λ (page : PageName). goes_on s (Kill t (Run name (start_address s name)))) o (over (told_why s t (codes "?NO PROGRAM"))))
       by None e = absurd (cc e)
       by (Some n) e = refl
 
   quiet_kill : (purpose : Purpose) (j : PlainJob) → Quiet (one_killed s t purpose j.top)
   quiet_kill purpose j = by (last_below s.forks j.top)
     where
-      by : (o : Option Fork) → Quiet (option_map_or (λ (k : Fork). goes_on _ (Kill t purpose)) o (goes_on s (End t purpose)))
+      by : (o : Option Fork) → Quiet (option_map_or (λ (k : Fork). goes_on (killed_fork s k.name) (Kill t purpose)) o (goes_on s (End t purpose)))
       by None e = refl
       by (Some f) e = refl
 

@@ -1,4 +1,5 @@
-use Rattle.std.proofs.Common.{subst}
+use Rattle.std.proofs.Common.{◌-◌, sym, subst}
+use Rattle.event_deeds.specs.declared.deed.Deed.{Deed}
 use Rattle.event_deeds.specs.Deeds.{deeds}
 use Rattle.step_shown.specs.Echoes.{told_items}
 use Rattle.step_shown.specs.declared.echo.Told.{Told as Printed}
@@ -12,11 +13,12 @@ returns-then-left-eq0-clause-has g n c = has_no_part c.args.self.now c.args.t c.
 
 pub returns-in-Some-clause-has : goal.returns-in-Some-clause-has
 returns-in-Some-clause-has g n c =
-    has_behind c.args.self.now c.part.new.self c.end_command.new.self c.args.t c.args.left c.args.deed.now c.in-Some.next c.in-Ok.answer c.end_command.result c.if-left-eq0.false c.in-Some.is c.requires.behind c.in-Ok.ensures.does c.end_command.ensures.has
+    has_behind c.args.self.now c.part.new.self c.end_command.new.self c.args.t c.args.left c.args.deed.now c.in-Some.next c.in-Ok.answer c.end_command.result c.if-left-eq0.false c.in-Some.is c.requires.behind c.in-Ok.ensures.does
+    (subst (λ (x : Deed). Has c.part.new.self c.end_command.new.self (λ s. deeds (c.args.left - 1) s x) (told_items c.args.t c.end_command.result)) c.in-Some.next-is c.end_command.ensures.has)
 
 pub returns-in-Told-clause-has : goal.returns-in-Told-clause-has
 returns-in-Told-clause-has g n c =
     let m = c.args.self.now in
     let prints = prints_so c.args.t c.args.deed.now c.in-Ok.answer c.requires.behind c.in-Ok.ensures.printed in
-    subst (λ (x : Printed). Has m c.part.new.self (λ s. deeds c.args.left s c.args.deed.now) (told_items c.args.t x)) c.in-Told.told-is
+    subst (λ (x : Printed). Has m c.part.new.self (λ s. deeds c.args.left s c.args.deed.now) (told_items c.args.t x)) (sym c.in-Told.told-is)
     (has_told m c.part.new.self c.args.t c.in-Told.field-0 c.args.left c.args.deed.now c.in-Told.told c.in-Ok.answer c.if-left-eq0.false c.in-None.is c.in-Told.is (subst (IsPrinted c.args.t) c.in-Told.is prints.shown) c.in-Ok.ensures.does)

@@ -1,6 +1,8 @@
-use Rattle.std.proofs.Common.{subst}
+use Rattle.std.proofs.Common.{sym, subst}
+use Rattle.event_deeds.specs.Deeds.{deeds}
+use Rattle.event_deeds.specs.declared.deed.Deed.{Deed}
 use Rattle.plain_model.specs.TypeEvents.{typed_at}
-use Rattle.step_shown.specs.Echoes.{echo_items}
+use Rattle.step_shown.specs.Echoes.{echo_items, told_items}
 use Rattle.step_shown.specs.declared.echo.Echo.{Echo as Echoed}
 use Rattle.monitor_core.specs.Effects.{Has}
 use Rattle.monitor_core.proofs.CharacterParts.{has_ended, has_once, shown_end, shown_once}
@@ -11,7 +13,8 @@ returns-in-Some-clause-has g c =
     let first = c.type_first-first.result in
     let e = c.type_first-first.ensures in
     has_ended c.args.self.now c.type_first-first.new.self c.end_command.new.self c.args.t c.args.c c.in-Some.next first c.end_command.result c.are_trees.ensures c.in-Some.is
-    (shown_end c.args.t c.in-Some.next first.next first.showing c.in-Some.is e.echoed.shown) e.does c.end_command.ensures.has
+    (shown_end c.args.t c.in-Some.next first.next first.showing c.in-Some.is e.echoed.shown) e.does
+    (subst (λ (x : Deed). Has c.type_first-first.new.self c.end_command.new.self (λ s. deeds 33 s x) (told_items c.args.t c.end_command.result)) c.in-Some.next-is c.end_command.ensures.has)
 
 pub returns-in-Echo-clause-has : goal.returns-in-Echo-clause-has
 returns-in-Echo-clause-has g c =
@@ -19,5 +22,5 @@ returns-in-Echo-clause-has g c =
     let n = c.type_first-first.new.self in
     let first = c.type_first-first.result in
     let e = c.type_first-first.ensures in
-    subst (λ (x : Echoed). Has m n (λ s. typed_at s c.args.t c.args.c) (echo_items c.args.t x)) c.in-Echo.shown-is
+    subst (λ (x : Echoed). Has m n (λ s. typed_at s c.args.t c.args.c) (echo_items c.args.t x)) (sym c.in-Echo.shown-is)
     (has_once m n c.args.t c.in-Echo.field-0 c.args.c c.in-Echo.shown first c.are_trees.ensures c.in-None.is c.in-Echo.is (shown_once c.args.t c.in-Echo.field-0 first.next first.showing c.in-Echo.shown c.in-None.is c.in-Echo.is e.echoed.shown) e.does)
