@@ -1,14 +1,13 @@
 -- Programs in files, and a fork that runs one.
-use Rattle.std.specs.Prelude.{◌≡◌, ℕ, Option, None, Some, Result, Ok, Err, IsSome}
+use Rattle.std.specs.Prelude.{◌≡◌, ℕ, Option, None, Some, IsSome}
 use Rattle.std.specs.Ordering.{nat_cmp}
-use Rattle.word36.specs.Words.{right}
 use Rattle.machine_names.specs.Orders.{file_page}
 use Rattle.machine_names.specs.declared.names.ForkName.{ForkName}
 use Rattle.machine_names.specs.declared.names.TheConstants.{SPACE_PAGES}
 use Rattle.plain_pages.specs.PlainPages.{NumberedPages}
 use Rattle.plain_pages.specs.References.{Spot, in_file, page_at, word_at}
 use Rattle.plain_model.specs.declared.command.TheConstants.{START_WORD}
-use Rattle.plain_model.specs.Commands.{begun_at, with_program, with_program_run}
+use Rattle.plain_model.specs.Commands.{begun_at, with_program}
 use Rattle.plain_model.specs.Trees.{with_changed_of}
 use Rattle.plain_model.specs.ForkCalls.{ForkParts}
 
@@ -20,11 +19,6 @@ first_page file = in_file (file_page file 0)
 abbrev pub StartsAt : NumberedPages → ℕ → Option ℕ → Type 0
 StartsAt p file (Some word) = IsSome (page_at p (first_page file)) × (word ≡ word_at p (first_page file) START_WORD)
 StartsAt p file None = page_at p (first_page file) ≡ None
-
--- a program is run at the right half of its start word, which is told; or its file doesn't have the first page, and nothing changes
-abbrev pub IsRun : {E : Type 0} → ForkName → ℕ → ForkParts nat_cmp → ForkParts nat_cmp → Result ℕ E → Type 0
-IsRun top file v w (Ok word) = StartsAt v.pages file (Some word) × (w ≡ with_program_run v top file (right word))
-IsRun top file v w (Err none) = StartsAt v.pages file None × (w ≡ v)
 
 -- a fork begins the program in a file at an address, and its map is the program's; its inferiors stay
 abbrev pub with_program_begun : ForkParts nat_cmp → ForkName → ℕ → ℕ → ForkParts nat_cmp

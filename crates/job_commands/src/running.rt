@@ -10,12 +10,12 @@ ghost use Rattle.fork_tree.specs.Trees.{IsTree};
 ghost use Rattle.job_forks.specs.Holding.{Holds, parts};
 ghost use Rattle.job_commands.specs.Leaving.{RunLeaves};
 ghost use Rattle.job_commands.specs.Needing.{NeedsMap};
-ghost use Rattle.job_commands.specs.Programs.{IsRun, with_program_begun};
+ghost use Rattle.job_commands.specs.Programs.{with_program_begun};
 ghost use Rattle.script_texts.specs.declared.status.ForkStatus.TheVariants.{Run as Running};
 ghost use Rattle.plain_model.specs.Forks.{first_regs, psi_at_rest};
 
-use crate::leaving::{ask_map, kill_inferiors};
-use crate::program::{map_program, start_of};
+use crate::leaving::ask_map;
+use crate::program::map_program;
 use fork_tree::Tree;
 use machine_names::{ACCUMULATORS, FileNo, ForkName};
 use page_contracts::{Need, Pages};
@@ -23,10 +23,6 @@ use plain_model::{Body, Psi};
 use plain_units::Regs;
 use script_texts::ForkStatus;
 use word36::{Flags, Word};
-
-/// A file has no program: its first page isn't there.
-#[derive(Clone, Copy, PartialEq, Eq)]
-pub struct NoProgram;
 
 // Nothing is in a fork's accumulators, it has no flags, its interrupts are at rest, it doesn't sleep, and it runs at an address.
 #[tactic(auto, unfolding(plain_model::specs::Forks::first_regs, plain_model::specs::Forks::psi_at_rest))]
@@ -53,36 +49,6 @@ fn begin_at(tree: &mut Tree, top: ForkName, address: u32)
     if let Some(body) = tree.body_mut(top) {
         begin(body, address);
     }
-}
-
-/// RUN: all inferiors of the top fork are killed, its map becomes that of the program in a file, and it begins at the
-/// right half of the program's start word, which is told. NoProgram exactly where the file doesn't have its first page; nothing changes then.
-pub fn run<P: Pages>(
-    top: ForkName,
-    file: FileNo,
-    tree: &mut Tree,
-    pages: &mut P,
-) -> Result<Word, NoProgram>
-    requires lives { IsSome (map.get tree.old.forks top) }
-    requires file { file.0 < MOST_FILES }
-    requires holds { Holds P.means pages.old tree.old.forks }
-    requires flat { P.means.flat ≡ true }
-    ensures told { (d : DrumWords) → P.means.fits pages.old d
-        → P.means.fits pages.new d × IsRun top file.0 (parts tree.old (P.means.plain pages.old d)) (parts tree.new (P.means.plain pages.new d)) result }
-    ensures leaves { RunLeaves P.means pages.old pages.new tree.old tree.new top }
-{
-    let word = match start_of(pages, file) {
-        Ok(Some(word)) => word,
-        Ok(None) => return Err(NoProgram),
-        // Pages in memory alone need nothing first.
-        Err(_) => unreachable!(),
-    };
-    kill_inferiors(top, tree, pages);
-    map_program(pages, top, file);
-    tree.are_trees();
-    begin_at(tree, top, word.right());
-    tree.are_trees();
-    Ok(word)
 }
 
 /// RUN, at last: a fork's map becomes that of the program in a file, and the fork begins at an address. Err: its map is in no frame; nothing changes then.
