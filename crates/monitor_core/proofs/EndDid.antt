@@ -328,6 +328,7 @@ waits_left {b = b} m m' n files same tree jobs typed panel needed = record {
   most = ap b.means.most same;
   planned = subst (StaysPlanned b.means.store m.pages) (sym same) (planned_still b.means.store m.pages);
   beside = record { tree = tree; files = files; jobs = jobs; typed = typed; panel = panel };
+  pages = λ d fits. (subst (λ q. b.means.fits q d) (sym same) fits, ap (λ q. b.means.plain q d) same);
   homed = subst (StaysHomed b.means m.pages) (sym same) (homed_still b.means m.pages);
   needed = subst (λ q. IsNeeded b.means.store event_frames q n) (sym same) (needed_more b.means.store 1 event_frames m.pages n (omega arith) needed);
 }

@@ -42,6 +42,7 @@ module _ {P : Type 0} {b : _} (m m' : System P b) (files : m'.files ≡ m.files)
     most = ap b.means.most same;
     planned = subst (StaysPlanned b.means.store m.pages) (sym same) (planned_still b.means.store m.pages);
     beside = record { tree = tree; files = files; jobs = jobs; typed = typed; panel = panel };
+    pages = λ d fits. (subst (λ q. b.means.fits q d) (sym same) fits, ap (λ q. b.means.plain q d) same);
     homed = subst (StaysHomed b.means m.pages) (sym same) (homed_still b.means m.pages);
     needed = needed;
   }

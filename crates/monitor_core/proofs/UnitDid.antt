@@ -298,6 +298,7 @@ module _ {P : Type 0} {b : _} (m : System P b) (f : Fork) (trees : IsTree m.tree
       most = ap b.means.most pages_are ∙ waits.unmade.made.most;
       planned = subst (StaysPlanned b.means.store m.pages) (sym pages_are) waits.unmade.planned;
       beside = record { tree = tree_is ∙ waits.told.tree; files = files_are ∙ waits.told.files; jobs = ap (λ x. x.items) jobs_are; typed = typed_are ∙ waits.told.typed; panel = panel };
+      pages = λ d fits. (let t = waits.told.each d fits in (subst (λ (x : P). b.means.fits x d) (sym pages_are) t.0, ap (λ (x : P). b.means.plain x d) pages_are ∙ t.1));
       homed = subst (StaysHomed b.means m.pages) (sym pages_are) waits.unmade.homed;
       needed = subst (λ (x : P). IsNeeded b.means.store unit_frames x n) (sym pages_are) waits.needed;
     }

@@ -14,7 +14,7 @@ use Rattle.file_tables.specs.Tables.{files_of, open_of}
 use Rattle.script_texts.specs.Limits.{FitsStep}
 use Rattle.page_contracts.specs.DrumWords.{DrumWords}
 use Rattle.page_contracts.specs.declared.answers.Need.{Need}
-use Rattle.page_contracts.specs.Pages.{MayLose}
+use Rattle.page_contracts.specs.Pages.{MayLose, StaysPlain}
 use Rattle.page_contracts.specs.Stores.{IsNeeded, StaysPlanned}
 use Rattle.plain_model.specs.Run.{apply, state_after, items_of, AreLegal}
 use Rattle.fork_tree.specs.Trees.{Lives}
@@ -95,5 +95,6 @@ pub record Waits {P : Type 0} {b : _} (frames : ℕ) (old new : System P b) (n :
   pub most : b.means.most new.pages ≡ b.means.most old.pages
   pub planned : StaysPlanned b.means.store old.pages new.pages
   pub beside : StaysBeside old new
+  pub pages : StaysPlain b.means old.pages new.pages
   pub homed : StaysHomed b.means old.pages new.pages
   pub needed : IsNeeded b.means.store frames new.pages n

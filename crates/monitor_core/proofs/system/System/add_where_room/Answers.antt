@@ -28,6 +28,7 @@ returns-in-NeedFrame-clause-waits g c = record {
   most = refl;
   planned = planned_still g.P.Pages.means.store c.args.self.now.pages;
   beside = record { tree = refl; files = refl; jobs = refl; typed = refl; panel = refl };
+  pages = λ d fits. (fits, refl);
   homed = homed_still g.P.Pages.means c.args.self.now.pages;
   needed = needed_more g.P.Pages.means.store 1 event_frames c.args.self.now.pages Frame (omega arith) (c.in-NeedFrame.ensures.frames refl);
 }
