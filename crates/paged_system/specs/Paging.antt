@@ -1,21 +1,22 @@
 -- What the clauses of page waits say of a system over pages.
-use Rattle.std.specs.Prelude.{◌×◌, ℕ, List}
-use Rattle.machine_names.specs.declared.names.PageName.{PageName}
+use Rattle.std.specs.Prelude.{◌≡◌, ℕ, List, None, Some}
+use Rattle.std.specs.Ordering.{nat_cmp}
+use Rattle.machine_names.specs.declared.names.FileNo.{FileNo}
+use Rattle.machine_names.specs.declared.names.Place.TheVariants.{File as InFile}
 use Rattle.page_contracts.specs.DrumWords.{DrumWords}
 use Rattle.page_contracts.specs.Stores.{StoreMeaning}
 use Rattle.plain_model.specs.Families.{Parts}
-use Rattle.std.specs.Ordering.{nat_cmp}
 use Rattle.event_deeds.specs.Deeds.{Task}
 use Rattle.event_deeds.specs.Showings.{showing_items}
 use Rattle.event_deeds.specs.declared.answer.Showing.{Showing}
 use Rattle.event_deeds.specs.declared.answer.Showing.TheVariants.{Reply}
 use Rattle.event_deeds.specs.declared.deed.Deed.{Deed}
 use Rattle.file_tables.specs.Keys.{key_of}
+use Rattle.file_tables.specs.Tables.{open_of}
 use Rattle.step_wants.specs.Homes.{told, wants}
 use Rattle.monitor_calls.specs.ForkUnit.{parts_in, rest_of}
 use Rattle.monitor_calls.specs.Jobs.{jobs_of}
-use Rattle.file_tables.specs.Tables.{open_of}
-use Rattle.monitor_core.specs.Needing.{CanShow, tables_of}
+use Rattle.monitor_core.specs.Needing.{ShownAt, tables_of}
 use Rattle.monitor_core.specs.Systems.{FitsPages, IsWithin, state_of}
 use Rattle.page_waits.specs.Systems.{SystemMeaning}
 use Rattle.paged_system.specs.Over.{over}
@@ -39,9 +40,9 @@ module _ {P : Type 0} {b : _} where
   told_of s d =
       told (b.means.map_home s.system.pages) (b.means.page_home s.system.pages) (key_of s.system.files) (b.means.filed s.system.pages) s.system.tree.forks (jobs_of (open_of s.system.files) s.system.typed.items s.system.jobs.items) d
 
-  -- over the words of a drum what is shown can be given
+  -- over the words of a drum what is shown can be given: a page that is shown is in a frame
   abbrev pub gives_in : Paged P b → DrumWords → Showing → Type 0
-  gives_in s d (Reply reply) = CanShow s.system reply
+  gives_in s d (Reply reply) = ShownAt s.system d reply
   gives_in s d shown = Unit {0}
 
   -- OF A SYSTEM OVER PAGES
