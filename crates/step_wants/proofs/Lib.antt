@@ -1,6 +1,6 @@
 mod Few
 mod Away
-mod FewDeeds
+pub mod FewDeeds
 mod Again
 mod Stepping
 mod Turning
@@ -14,10 +14,10 @@ mod FewOthers
 mod Own
 mod Keeping
 mod Channels
-mod Units
+pub mod Units
 mod DeedsNamed
 mod UnitsNamed
 mod Wanted
-mod Homing
+pub mod Homing
 mod Rekeyed
 mod SameNames
