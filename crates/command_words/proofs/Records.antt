@@ -1,5 +1,5 @@
 -- The words of a command that reads a record.
-use Rattle.std.proofs.Common.{◌≡◌, ◌∙◌, refl, sym, ap, ap₂, subst, ℕ, Bool, true, false, List, [], ◌∷◌, Option, Some, None, codes}
+use Rattle.std.proofs.Common.{◌≡◌, ◌∙◌, refl, sym, ap, ap₂, subst, Bool, true, false, List, [], ◌∷◌, Option, Some, None, codes}
 use Rattle.std.specs.Prelude.{MatchOption, slice_get, unwrap_or, flat_map, if◌then◌else◌}
 use Rattle.std.specs.Str.{bytes_eq}
 use Rattle.std.proofs.lemmas.Option.{none-some}
@@ -8,11 +8,11 @@ use Rattle.outside.specs.declared.TheConstants.{MOST_DRUM_PAGES}
 use Rattle.command_words.specs.declared.sizes.TheConstants.{LEAST_DRUM_PAGES, STANDARD_DRUM_PAGES}
 use Rattle.clap.specs.Words.{matches_of, rows_of}
 use Rattle.clap.specs.declared.parser.matches.Found.{Found}
-use Rattle.command_words.specs.Words.{AsksForDrum, Given, Setting, Text, a_seed, a_size, drum_size, frames_size, given, words_of}
+use Rattle.command_words.specs.Words.{AsksForDrum, Setting, Text, a_seed, a_size, drum_size, frames_size, given, words_of}
 use Rattle.command_words.specs.RecordWords.{AreRecordBy, AskRecordOf, command_name}
-use Rattle.command_words.specs.Parser.{AreRight, AsksForRecord, IsFoundIn, command_named, found_values, is_other, run_app}
+use Rattle.command_words.specs.Parser.{AreRight, AsksForRecord, IsFoundIn, command_named, is_other, run_app}
 use Rattle.command_words.specs.declared.record_command.RecordCommand.{RecordCommand}
-use Rattle.command_words.specs.declared.record_command.RecordCommand.TheVariants.{Replay}
+use Rattle.command_words.specs.declared.record_command.RecordCommand.TheVariants.{Replay, Image}
 use Rattle.command_words.specs.declared.request.RecordRequest.{RecordRequest}
 use Rattle.command_words.proofs.Whole.{Fine, IsSingle}
 use Rattle.command_words.proofs.Reading.{IsClean, clean_by, clean_found, first_is, one_number, read_found, single}
@@ -24,6 +24,7 @@ fine settings words r are a_seed = subst IsSingle (sym are.no_seed) tt
 
 command_other : (command : RecordCommand) → is_other (command_name command) ≡ true
 command_other Replay = refl
+command_other Image = refl
 
 -- the words that ask for something of a record
 clean : (settings : List Setting) (words : List Text) (r : RecordRequest) → AreRecordBy settings words r → IsClean settings words
@@ -35,16 +36,18 @@ record_right words r (settings, are) = (clean settings words r are).right
 -- the name of a command tells it
 pub command_found : (command : RecordCommand) → command_named (command_name command) ≡ Some command
 command_found Replay = refl
+command_found Image = refl
 
 one_command : (a b : RecordCommand) → command_name a ≡ command_name b → a ≡ b
 one_command a b same = ap (λ o. unwrap_or o a) (sym (command_found a) ∙ ap command_named same ∙ command_found b)
 
 pub command_is : (name : Text) (command : RecordCommand) → command_named name ≡ Some command → name ≡ command_name command
-command_is name command = by (bytes_eq name (codes "replay")) refl
+command_is name command = by (bytes_eq name (codes "replay")) (bytes_eq name (codes "image")) refl refl
   where
-    by : (b : Bool) → bytes_eq name (codes "replay") ≡ b → (if b then Some Replay else None) ≡ Some command → name ≡ command_name command
-    by true e is = (bytes_eq-Decides name (codes "replay")).0 e ∙ ap (λ o. command_name (unwrap_or o Replay)) is
-    by false e is = absurd (none-some command is)
+    by : (b i : Bool) → bytes_eq name (codes "replay") ≡ b → bytes_eq name (codes "image") ≡ i → (if b then Some Replay else (if i then Some Image else None)) ≡ Some command → name ≡ command_name command
+    by true i e f is = (bytes_eq-Decides name (codes "replay")).0 e ∙ ap (λ o. command_name (unwrap_or o Replay)) is
+    by false true e f is = (bytes_eq-Decides name (codes "image")).0 f ∙ ap (λ o. command_name (unwrap_or o Image)) is
+    by false false e f is = absurd (none-some command is)
 
 first_word : (name : Text) (rest words : List Text) → words ≡ name ∷ rest → slice_get words 0 ≡ Some name
 first_word name rest words is = ap (λ l. slice_get l 0) is

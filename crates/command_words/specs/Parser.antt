@@ -9,7 +9,7 @@ use Rattle.clap.specs.declared.builder.action.ArgAction.TheVariants.{Set}
 use Rattle.clap.specs.declared.parser.matches.Found.{Found}
 use Rattle.command_words.specs.Words.{AsksFor, AsksForDrum, AsksForEvents, AsksForFrames, Given, Size, Text, a_seed, a_size, drum_size, frames_size, listed, option_name}
 use Rattle.command_words.specs.declared.record_command.RecordCommand.{RecordCommand}
-use Rattle.command_words.specs.declared.record_command.RecordCommand.TheVariants.{Replay}
+use Rattle.command_words.specs.declared.record_command.RecordCommand.TheVariants.{Replay, Image}
 use Rattle.command_words.specs.declared.request.RecordRequest.{RecordRequest}
 use Rattle.command_words.specs.declared.request.Request.{Request}
 use Rattle.command_words.specs.declared.request.EventSource.{EventSource}
@@ -63,7 +63,7 @@ name_of Big = codes "big"
 
 -- the first words of a command that reads a record
 abbrev pub command_named : Text → Option RecordCommand
-command_named name = if bytes_eq name (codes "replay") then Some Replay else None
+command_named name = if bytes_eq name (codes "replay") then Some Replay else (if bytes_eq name (codes "image") then Some Image else None)
 
 -- the values of what is given, as `clap` has them
 abbrev pub found_values : Found → Given → List Text

@@ -7,6 +7,8 @@ ghost use Rattle.command_words.specs.Parser.{command_named};
 pub enum RecordCommand {
     /// The transcript of its entries.
     Replay,
+    /// The image of the files that it leaves.
+    Image,
 }
 
 impl RecordCommand {
@@ -16,6 +18,8 @@ impl RecordCommand {
     {
         if name.as_bytes() == b"replay".as_slice() {
             Some(RecordCommand::Replay)
+        } else if name.as_bytes() == b"image".as_slice() {
+            Some(RecordCommand::Image)
         } else {
             None
         }

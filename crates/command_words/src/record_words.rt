@@ -14,7 +14,7 @@ use clap::ArgMatches;
 use outside::Memory;
 use std::alloc::Global;
 
-/// What a command's words, those behind the program's name, ask to be made of a record. They are `replay`, with
+/// What a command's words, those behind the program's name, ask to be made of a record. They are `replay` or `image`, with
 /// `--drum n` or `--drum=n` at most once; n is 1 to 9 decimal digits. Without it there are 2,048 pages. None exactly where
 /// the words are others, or the size is out of its range. `Memory` says nothing of the words.
 pub fn asked_record(alloc: Global, words: &[String]) -> Result<Option<RecordRequest>, Memory>

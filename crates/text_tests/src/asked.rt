@@ -197,6 +197,16 @@ fn right_words_ask_for_a_replay(rt: HostRuntime) {
     }
 }
 
+#[test]
+fn right_words_ask_for_an_image(rt: HostRuntime) {
+    let request = RecordRequest {
+        command: RecordCommand::Image,
+        drum: 256,
+    };
+    ask_of_record(&rt, rt.alloc(), "image --drum 256", Some(request));
+    ask(&rt, rt.alloc(), "image --drum 256", None);
+}
+
 const NO_REPLAYS: [&str; 22] = [
     "",
     "REPLAY",
