@@ -2,8 +2,9 @@
 use Rattle.std.specs.Prelude.{ℕ, List, Option, String}
 use Rattle.command_words.specs.RecordWords.{AskRecord}
 use Rattle.command_words.specs.declared.record_command.RecordCommand.{RecordCommand}
-use Rattle.command_words.specs.declared.record_command.RecordCommand.TheVariants.{Replay}
+use Rattle.command_words.specs.declared.record_command.RecordCommand.TheVariants.{Replay, Image}
 use Rattle.command_words.specs.declared.request.RecordRequest.{RecordRequest}
+use Rattle.record_image.specs.Imaged.{Imaged}
 use Rattle.record_player.specs.Replays.{Replayed}
 use Rattle.record_player.specs.declared.replay_end.ReplayEnd.{ReplayEnd}
 use Rattle.record_player.specs.declared.replay_end.ReplayEnd.TheVariants.{Done, Bad, Illegal, Long, ReadFault, WriteFault, Memory}
@@ -13,6 +14,7 @@ use Rattle.texts.specs.declared.last.Status.TheVariants as status
 -- what each command made of a record that is told, where it ended so, with a drum of so many pages unless the record tells another number
 abbrev pub Makes : RecordCommand → (pages : ℕ) → (told : Option (List ℕ)) → ReplayEnd → (out out' : Option (List ℕ)) → Type 0
 Makes Replay pages told how out out' = Replayed pages told how out out'
+Makes Image pages told how out out' = Imaged pages told how out out'
 
 -- the words ask for something of a record, and this was made of it
 abbrev pub MadeOf : {Z : Type 0} → List (String Z) → (told : Option (List ℕ)) → ReplayEnd → (out out' : Option (List ℕ)) → Type 0

@@ -7,12 +7,13 @@ ghost use Rattle.record_console.specs.Statuses.{IsUsageOrBefore, Stops, Tells};
 
 use command_words::{RecordCommand, RecordRequest, asked_record};
 use outside::{Failed, Memory, Sink, Source};
+use record_image::image;
 use record_player::{ReplayEnd, replay};
 use std::alloc::Global;
 use texts::{Status, write_closing};
 
 /// Makes of a record what a command's words, those behind the program's name, ask for. `replay` plays it and writes the
-/// transcript of its entries to `out`. The words may set the drum's size, which has an effect only where the record doesn't
+/// transcript of its entries to `out`; `image` plays it and writes the image of the files that it leaves. The words may set the drum's size, which has an effect only where the record doesn't
 /// tell it. The status tells how it ended, and but for Done and WriteFault a last line of `out` says so too.
 ///
 /// Usage comes exactly where the words are others, and then nothing is read; Memory, where there is none for the words or
@@ -80,6 +81,7 @@ fn make<S: Source, T: Sink>(
 {
     match request.command {
         RecordCommand::Replay => replay(alloc, request.drum, record, out),
+        RecordCommand::Image => image(alloc, request.drum, record, out),
     }
 }
 

@@ -12,6 +12,7 @@ usage: tenex run [--frames N] [--drum N] < SCRIPT
        tenex big SEED [--frames N] [--drum N]
        tenex asm T < PROGRAM
        tenex replay [--drum N] < RECORD
+       tenex image [--drum N] < RECORD
   run: runs the console script on standard input; the transcript goes to standard output, and the record to the
   file tenex.record in the current folder, which is made anew
   big: runs the script that is generated from the seed, a number of 1 to 9 digits, in the same way, and prints
@@ -22,6 +23,7 @@ usage: tenex run [--frames N] [--drum N] < SCRIPT
   go to standard output, and no file is made
   replay: plays the record on standard input; the transcript of its entries goes to standard output, and no file is
   made; where the run had another drum than 2048 pages, the option tells its size
+  image: plays the record in the same way; the image of the files that it leaves goes to standard output
   docs/MACHINE.md has the lines of a script, a program and a record, and examples/ some to begin with";
 
 /// An entry of a record is a unit of a fork that can't run there.
