@@ -13,8 +13,9 @@ use std::alloc::Global;
 use texts::{Status, write_closing};
 
 /// Makes of a record what a command's words, those behind the program's name, ask for. `replay` plays it and writes the
-/// transcript of its entries to `out`; `image` plays it and writes the image of the files that it leaves. The words may set the drum's size, which has an effect only where the record doesn't
-/// tell it. The status tells how it ended, and but for Done and WriteFault a last line of `out` says so too.
+/// transcript of its entries to `out`; `image` plays it and writes the image of the files that it leaves. The words may set
+/// the drum's size, which has an effect only where the record doesn't tell it. The status tells how it ended, and but for
+/// Done and WriteFault a last line of `out` says so too.
 ///
 /// Usage comes exactly where the words are others, and then nothing is read; Memory, where there is none for the words or
 /// for what plays the record; Script, where a line of the record is bad; Illegal, where a unit is of a fork that can't run
