@@ -347,6 +347,22 @@ ln -s /dev/null "$work/at/tenex.record"
 (trap '' XFSZ && ulimit -f 8 && cd "$work/at" && exec "$program" run) <"$work/script" >"$work/out" 2>/dev/null
 full "a disk that is full for the transcript" "$work/out" "$work/whole_out"
 
+# The same on a small file system that is full, where one can be mounted.
+mkdir "$work/small"
+if mount -t tmpfs -o size=16k tmpfs "$work/small" 2>"$work/messages"; then
+    trap 'umount "$work/small"; rm -rf "$work"' EXIT
+    (cd "$work/small" && exec "$program" run) <"$work/script" 2>"$work/messages" >"$work/out"
+    full "a file system that is full for the record" "$work/small/tenex.record" "$work/whole"
+    grep -q '^tenex: tenex.record: .*[Nn]o space' "$work/messages" || fail "a file system that is full for the record: '$(cat "$work/messages")'"
+    rm "$work/small/tenex.record"
+    fresh
+    (cd "$work/at" && exec "$program" run) <"$work/script" >"$work/small/out" 2>"$work/messages"
+    full "a file system that is full for the transcript" "$work/small/out" "$work/whole_out"
+    grep -q '^tenex: standard output: .*[Nn]o space' "$work/messages" || fail "a file system that is full for the transcript: '$(cat "$work/messages")'"
+else
+    echo "program.sh: no file system can be mounted here, so a full one was not tried" >&2
+fi
+
 # A second run in the folder of one that is at work leaves its record alone, and says so.
 fresh
 cases=$((cases + 1))
