@@ -1,4 +1,4 @@
-"""What the program makes of records: those of the examples, rows, and records that are cut or changed at each byte."""
+"""What the program makes of records, by `replay` and by `image`: those of the examples, rows, and records that are cut or changed at each byte."""
 import os
 import pathlib
 import re
@@ -59,6 +59,95 @@ def options(script):
     return ['--drum', found[1]] if found else []
 
 
+def number(out, at, size):
+    """A number of an image, its highest byte first. Of bytes that aren't there it is none."""
+    if at + size > len(out):
+        raise ValueError(f'it ends within the number at byte {at}')
+    return int.from_bytes(out[at:at + size], 'big')
+
+
+def page_at(out, at, before):
+    """The number of the page at this place of an image, which has to be above the one before, and whose words have 36 bits."""
+    page = number(out, at, 2)
+    if not before < page < 512:
+        raise ValueError(f'a page {page} is behind page {before}')
+    for word in range(512):
+        if number(out, at + 2 + 8 * word, 8) >> 36:
+            raise ValueError(f'word {word} of page {page} has more than 36 bits')
+    return page
+
+
+def files_of(out):
+    """The names of an image's files. It has to be well formed: files in the order of their names, pages in that of their numbers, no byte left."""
+    names, at = [], 12
+    if out[:8] != b'TENEXIM1' or number(out, 8, 4) > 512:
+        raise ValueError('the header')
+    for _ in range(number(out, 8, 4)):
+        size = number(out, at, 1)
+        name = out[at + 1:at + 1 + size]
+        at += 1 + size
+        bits, length, pages = number(out, at, 1), number(out, at + 1, 8), number(out, at + 9, 2)
+        at += 11
+        if not re.fullmatch(rb'<[A-Z0-9-]{1,12}>[A-Z0-9-]+\.[A-Z0-9-]*', name) or size > 39 or (names and name <= names[-1]):
+            raise ValueError(f'the name {name} behind {names[-1:]}')
+        if not 1 <= bits <= 36 or length > 36 // bits << 18 or pages > 512:
+            raise ValueError(f'the head of {name}: {bits} bits, {length} bytes, {pages} pages')
+        page = -1
+        for _ in range(pages):
+            page = page_at(out, at, page)
+            at += 4098
+        names.append(name)
+    if at != len(out):
+        raise ValueError(f'{len(out) - at} bytes are left')
+    return names
+
+
+def is_image(name, out):
+    """Whether this is a well-formed image of files. Where it is not, it fails."""
+    try:
+        files_of(out)
+        return True
+    except ValueError as why:
+        fail(name, f'no image of files: {why}')
+        return False
+
+
+def image_of(name, words, record):
+    """What the image of a record is, which has to end well."""
+    global cases
+    cases += 1
+    status, out, err = run(words, record)
+    if status or err:
+        fail(f'the image of {name}', f'{(status, err)}')
+    else:
+        is_image(f'the image of {name}', out)
+    return out
+
+
+def image_rows():
+    """Records whose image is known, byte by byte."""
+    header = b'TENEXIM1' + bytes(3)
+    word = bytes(7) + b'\1'
+    head = b'\6<A>B.C' + b'\x24' + word + b'\0\1'
+    one = header + b'\1' + head + bytes(2) + word + bytes(511 * 8)
+    refused = b'LOGIN 0 A\nWORDS <A>B.C 0 0 1\nU 0 1 1\n'
+    forked = b'tenex: that entry of the record is a unit of a fork that can'
+    rows = [
+        (b'', (0, header + b'\0'), b''),
+        (b'E 0 0\n', (0, header + b'\0'), b''),
+        (b'FILE <A>B.C\nWORDS <A>B.C 0 0 1\nE 0 0\n', (0, one), b''),
+        (b'V 2 256\nFILE <A>B.C\nWORDS <A>B.C 0 0 1\n', (0, one), b''),
+        (b'FILE <A>B.C\n', (0, header + b'\1' + b'\6<A>B.C' + b'\x24' + bytes(10)), b''),
+        (b'LOGIN 0 A\nU 0 1 1\n', (8, b'?ILLEGAL 2\n'), forked),
+        (refused, (8, b'?ILLEGAL 3\n'), forked),
+        (b'FILE <A>B.C\nWORDS <A>B.C 0 0 1\nRUN 1\n', (2, b'?LINE 3\n'), b'tenex: docs/MACHINE.md has the lines of a record'),
+    ]
+    if len(one) != 4128:
+        fail('the row of one page', f'it has {len(one)} bytes')
+    for record, wanted, said in rows:
+        ends(f'the image of {record}', wanted, ['image'], record, said)
+
+
 def replay_examples():
     scripts = sorted(TOP.glob('examples/*.script')) + sorted(TOP.glob('examples/*/*.script'))
     if len(scripts) < 100:
@@ -71,7 +160,10 @@ def replay_examples():
         ends(name, (0, transcript), ['replay', *options(script)], record)
         # A record of the second version tells the drum, and the option has no effect.
         pages = (options(script) or ['', '2048'])[1]
-        ends(f'{name}, as version 2', (0, transcript), ['replay', '--drum=256'], f'V 2 {pages}\n'.encode() + record)
+        second = f'V 2 {pages}\n'.encode() + record
+        ends(f'{name}, as version 2', (0, transcript), ['replay', '--drum=256'], second)
+        image = image_of(name, ['image', *options(script)], record)
+        ends(f'the image of {name}, as version 2', (0, image), ['image', '--drum=256'], second)
 
     with ThreadPoolExecutor(4) as workers:
         list(workers.map(one, scripts))
@@ -130,22 +222,27 @@ def replay_lesson():
 def replay_words():
     usage = b'usage: tenex run [--frames N] [--drum N]'
     for words in [[''], ['7'], ['0'], ['--frames', '160'], ['--frames=160'], ['--drum'], ['--drum', '255'], ['--drum=16385'],
-                  ['--drum', '256', '--drum', '256'], ['--'], ['--help'], ['help'], ['replay'], ['-d', '256'], ['--drum', '0000000256']]:
-        ends(f'the words {words}', (1, b'?USAGE\n'), ['replay', *words], b'E 0 0\n', usage)
+                  ['--drum', '256', '--drum', '256'], ['--'], ['--help'], ['help'], ['replay'], ['image'], ['-d', '256'], ['--drum', '0000000256']]:
+        for command in ['replay', 'image']:
+            ends(f'the words {words} of {command}', (1, b'?USAGE\n'), [command, *words], b'E 0 0\n', usage)
     for words in [['--drum', '256'], ['--drum=256'], ['--drum', '16384'], ['--drum=000000256']]:
         ends(f'the words {words}', (0, b''), ['replay', *words], b'E 0 0\n')
+        ends(f'the words {words} of image', (0, b'TENEXIM1' + bytes(4)), ['image', *words], b'E 0 0\n')
 
 
 def replay_streams():
     first = text_of(TOP / 'examples/first.record')
-    folder = os.open('/', os.O_RDONLY)
-    ends('a record that cannot be read', (5, b'?READ\n'), ['replay'], said=b'tenex: standard input: ', stdin=folder)
-    os.close(folder)
-    with open('/dev/full', 'wb') as full:
-        ends('a transcript that cannot be written', (6, b''), ['replay'], first, said=b'tenex: standard output: ', stdout=full)
-        ends('a usage that cannot be written', (6, b''), ['replay', '7'], first, said=b'tenex: standard output: ', stdout=full)
     few = (40_000 * 1024, 40_000 * 1024)
-    ends('no memory', (4, b'?MEMORY\n'), ['replay', '--drum', '16384'], first, said=b'tenex: there is no memory', preexec_fn=lambda: resource.setrlimit(resource.RLIMIT_AS, few))
+    for command in ['replay', 'image']:
+        folder = os.open('/', os.O_RDONLY)
+        ends(f'{command}: a record that cannot be read', (5, b'?READ\n'), [command], said=b'tenex: standard input: ', stdin=folder)
+        os.close(folder)
+        with open('/dev/full', 'wb') as full:
+            ends(f'{command}: a text that cannot be written', (6, b''), [command], first, said=b'tenex: standard output: ', stdout=full)
+            ends(f'{command}: a usage that cannot be written', (6, b''), [command, '7'], first, said=b'tenex: standard output: ', stdout=full)
+            ends(f'{command}: a reason that cannot be written', (6, b''), [command], b'TICK', said=b'tenex: standard output: ', stdout=full)
+        ends(f'{command}: no memory', (4, b'?MEMORY\n'), [command, '--drum', '16384'], first, said=b'tenex: there is no memory',
+             preexec_fn=lambda: resource.setrlimit(resource.RLIMIT_AS, few))
 
 
 def is_front(out, transcript):
@@ -153,17 +250,30 @@ def is_front(out, transcript):
     return transcript.startswith(out) or (out.endswith(b'\n') and transcript.startswith(out[:-1]))
 
 
+def same_end(name, words, record, status, line):
+    """The image of a record ends as its replay does: with the same status, and the image alone or this line alone."""
+    global cases
+    cases += 1
+    ended, out, _ = run(['image', *words], record)
+    if ended != status or (status and out != line):
+        fail(f'the image of {name}', f'{(ended, out)}, wanted {(status, line)}')
+    elif not status:
+        is_image(f'the image of {name}', out)
+
+
 def cut(name, record, transcript, length):
     """A record that is cut is whole where a line ends there, and else its last line is bad. The text of what was played is handed back."""
     global cases
     cases += 1
-    status, out, _ = run(['replay', *options(TOP / f'examples/{name}.script')], record[:length])
+    words = options(TOP / f'examples/{name}.script')
+    status, out, _ = run(['replay', *words], record[:length])
     line = b''
     if length and record[length - 1] != 10:
         line = b'?LINE %d\n' % (record[:length].count(b'\n') + 1)
     shown = out[:len(out) - len(line)]
     if status != (2 if line else 0) or not out.endswith(line) or not is_front(shown, transcript):
         fail(f'{name} cut after {length} bytes', f'{(status, out)}, wanted a front of the transcript and then {line}')
+    same_end(f'{name} cut after {length} bytes', words, record[:length], status, line)
     return shown
 
 
@@ -172,7 +282,8 @@ def change(name, record, shown, at, byte):
     global cases
     cases += 1
     changed = record[:at] + bytes([byte]) + record[at + 1:]
-    status, out, _ = run(['replay', *options(TOP / f'examples/{name}.script')], changed)
+    words = options(TOP / f'examples/{name}.script')
+    status, out, _ = run(['replay', *words], changed)
     ends_so = {0: rb'', 2: rb'\?LINE (\d+)\n', 8: rb'\?ILLEGAL (\d+)\n'}.get(status)
     found = re.search(ends_so + rb'\Z', out) if ends_so is not None else None
     number = record[:at].count(b'\n') + 1
@@ -183,6 +294,7 @@ def change(name, record, shown, at, byte):
         fail(f'{name} with byte {at} changed to {byte}', f'a line before is bad: {out}')
     elif status == 2 and int(found[1]) == number and out != before + found[0]:
         fail(f'{name} with byte {at} changed to {byte}', f'{out}, wanted {before + found[0]}')
+    same_end(f'{name} with byte {at} changed to {byte}', words, changed, status, found[0] if found else b'')
 
 
 def cut_and_change():
@@ -199,6 +311,7 @@ def cut_and_change():
 replay_examples()
 replay_big()
 replay_rows()
+image_rows()
 replay_lesson()
 replay_words()
 replay_streams()

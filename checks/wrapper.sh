@@ -115,6 +115,17 @@ said "'checked: ..' and 'run=..'"
 handed_on replay --drum 256
 handed_on replay --drum=16384
 handed_on replay --drum 000000256
+same_answer image ''
+same_answer image 7
+same_answer image image
+same_answer image --frames=160
+same_answer image --drum 255
+same_answer image --drum=256 --drum=256
+same_answer IMAGE
+handed_on image
+said 'the record is played'
+handed_on image --drum 256
+handed_on image --drum=16384
 same_answer run help
 same_answer run --help
 same_answer run run
