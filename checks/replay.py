@@ -102,14 +102,13 @@ def files_of(out):
     return names
 
 
-def is_image(name, out):
-    """Whether this is a well-formed image of files. Where it is not, it fails."""
+def files_in(name, out):
+    """The names of the files of what has to be an image. Where it is none, it fails."""
     try:
-        files_of(out)
-        return True
+        return files_of(out)
     except ValueError as why:
         fail(name, f'no image of files: {why}')
-        return False
+        return []
 
 
 def image_of(name, words, record):
@@ -120,7 +119,7 @@ def image_of(name, words, record):
     if status or err:
         fail(f'the image of {name}', f'{(status, err)}')
     else:
-        is_image(f'the image of {name}', out)
+        files_in(f'the image of {name}', out)
     return out
 
 
@@ -164,9 +163,12 @@ def replay_examples():
         ends(f'{name}, as version 2', (0, transcript), ['replay', '--drum=256'], second)
         image = image_of(name, ['image', *options(script)], record)
         ends(f'the image of {name}, as version 2', (0, image), ['image', '--drum=256'], second)
+        return len(image) > 12
 
     with ThreadPoolExecutor(4) as workers:
-        list(workers.map(one, scripts))
+        with_files = sum(workers.map(one, scripts))
+    if with_files < 10:
+        fail('the examples', f'only {with_files} leave a file')
 
 
 def replay_big():
@@ -258,7 +260,7 @@ def same_end(name, words, record, status, line):
     if ended != status or (status and out != line):
         fail(f'the image of {name}', f'{(ended, out)}, wanted {(status, line)}')
     elif not status:
-        is_image(f'the image of {name}', out)
+        files_in(f'the image of {name}', out)
 
 
 def cut(name, record, transcript, length):
