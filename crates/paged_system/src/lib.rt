@@ -3,6 +3,7 @@
 //! To the layer above it is a `System`. Stands on `monitor_core` for what units and deeds do, on `step_wants` for what they refer to, and on `fork_lists`.
 #![tactic(auto)]
 
+mod deeds;
 mod doing;
 mod following;
 mod paged;
