@@ -1,0 +1,56 @@
+use Rattle.std.proofs.Common.{◌≡◌, ℕ, List, true, sym, ◌∙◌, ap, subst}
+use Rattle.event_deeds.specs.Deeds.{IsTold, deed_of}
+use Rattle.page_contracts.specs.declared.answers.Need.TheVariants.{Page}
+use Rattle.plain_model.specs.Moves.{moves}
+use Rattle.plain_model.specs.Trees.{PlainTree}
+use Rattle.file_tables.specs.Keys.{key_of}
+use Rattle.step_wants.specs.Homes.{told}
+use Rattle.monitor_core.specs.Deeds.{PartNeeds, PartReaches}
+use Rattle.turn_forms.specs.Turns.{KeepSlots, moved}
+use Rattle.page_waits.specs.Seats.{has}
+use Rattle.paged_system.specs.Paging.{parts_of}
+use Rattle.paged_system.proofs.DeedDone.{deed_waits, is_told, part_did}
+use Rattle.paged_system.proofs.Needing.{part_told, same_filed}
+use Rattle.paged_system.proofs.paged.Paged.do_part.Goals as goal
+
+pub follow_part-requires-clause-had : goal.follow_part-requires-clause-had
+follow_part-requires-clause-had g c =
+    let tree = c.args.self.now.system.tree in
+    record {
+      old = tree;
+      trees = c.trees.ensures;
+      tied = c.requires.tied;
+      changed = subst (λ (x : PlainTree). PartReaches c.in-Ok.answer.showing tree.forks x.forks) (sym c.forks.ensures.forks) c.in-Ok.ensures.others;
+    }
+
+pub returns-in-Ok-clause-did : goal.returns-in-Ok-clause-did
+returns-in-Ok-clause-did g c =
+    let old = c.args.self.now in
+    part_did old (record old { system = c.part.new.self }) c.args.deed.now c.in-Ok.answer c.requires.part.1 c.in-Ok.ensures.does c.in-Ok.ensures.fits
+
+pub returns-in-Ok-clause-moved : goal.returns-in-Ok-clause-moved
+returns-in-Ok-clause-moved g c slots =
+    let tree = c.args.self.now.system.tree in
+    let is = c.forks.ensures.forks in
+    c.follow_part.ensures.moved tree c.trees.ensures c.requires.tied
+    (subst (λ (x : PlainTree). PartReaches c.in-Ok.answer.showing tree.forks x.forks) (sym is) c.in-Ok.ensures.others)
+    (subst (λ (x : PlainTree). KeepSlots tree.forks x.forks) (sym is) slots)
+    ∙ ap (λ (x : PlainTree). moved (moves tree.forks x.forks) c.args.lists.now.sched) is
+
+pub returns-in-Err-clause-needs : goal.returns-in-Err-clause-needs
+returns-in-Err-clause-needs g c =
+    let old = c.args.self.now in
+    let new = record old { system = c.part.new.self } in
+    let means = g.P.Pages.means in
+    let m = old.system in
+    let x = c.args.deed.now in
+    deed_waits old new c.in-Err.need c.in-Err.ensures.waits (g.met.P.Pages.housed m.pages) (g.met.P.Pages.housed c.part.new.self.pages) (λ flat. (let wrong = c.in-Err.ensures.core flat in cc wrong)) x
+    (λ d home fits is.
+        ap (has home.0) (c.the_tables_tell.ensures (key_of m.files) (parts_of old d) x (means.map_home m.pages) (means.page_home m.pages) (is_told x c.requires.part.1)
+            ∙ ap (λ filed. told (means.map_home m.pages) (means.page_home m.pages) (key_of m.files) filed m.tree.forks (parts_of old d).jobs x) (same_filed old d fits (g.met.P.Pages.agrees m.pages d fits.pages)))
+        ∙ part_told old x home (subst (PartNeeds m x) is c.in-Err.ensures.needs))
+
+pub returns-in-Err-clause-told : goal.returns-in-Err-clause-told
+returns-in-Err-clause-told g c home told is =
+    let needs : c.in-Err.need ≡ Page home = cc is in
+    part_told c.args.self.now c.args.deed.now home (subst (PartNeeds c.args.self.now.system c.args.deed.now) needs c.in-Err.ensures.needs)
