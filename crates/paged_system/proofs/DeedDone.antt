@@ -1,5 +1,5 @@
 -- What a deed leaves of a system over pages, by what the system below tells of an event and of a part of a character.
-use Rattle.std.proofs.Common.{◌≡◌, ℕ, ◌+◌, List, Bool, true, false, Option, None, Some, refl, sym, ◌∙◌, ap, subst, arith}
+use Rattle.std.proofs.Common.{◌≡◌, Bool, true, false, None, refl, ◌∙◌, subst, arith}
 use Rattle.script_texts.specs.declared.event.Event.{Event}
 use Rattle.script_texts.specs.declared.event.Step.TheVariants as step
 use Rattle.plain_model.specs.Run.{apply}
@@ -38,14 +38,6 @@ outer_items s e = refl
 outer_next : (s : PlainState) (e : Event) → None ≡ (deed s (Outer e)).next
 unfolding deed
 outer_next s e = refl
-
--- a deed is a part unless it is an event
-pub part_of : (d : Deed) → ((e : Event) → d ≡ Outer e → ⊥) → IsPart d
-part_of (Outer e) other = no e refl
-part_of (Typed t c) other = tt
-part_of (Begin t name) other = tt
-part_of (Kill t purpose) other = tt
-part_of (End t purpose) other = tt
 
 -- the tables tell of each part
 pub is_told : (d : Deed) → IsPart d → IsTold d

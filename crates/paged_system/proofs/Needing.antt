@@ -1,13 +1,11 @@
 -- What a deed needs first is wanted, and what the tables tell of it is among that.
-use Rattle.std.proofs.Common.{◌≡◌, ℕ, ◌<◌, ◌≤◌, List, [], ◌∷◌, Bool, true, false, Option, None, Some, refl, sym, ◌∙◌, ap, subst, inl, inr, arith}
+use Rattle.std.proofs.Common.{◌≡◌, ℕ, ◌≤◌, List, [], ◌∷◌, true, false, Option, None, Some, refl, sym, ◌∙◌, ap, subst, inl, inr, arith}
 use Rattle.std.specs.Prelude.{◌==◌, ◌||◌, nat_eq, nat_lt}
-use Rattle.std.specs.List.{cons_option, list_any}
+use Rattle.std.specs.List.{cons_option}
 use Rattle.std.specs.Option.{option_map_or, unwrap_or}
 use Rattle.std.specs.Set.{unique_keys}
-use Rattle.std.specs.FinMap as map
 use Rattle.std.proofs.lemmas.Bool.Decides.{nat_tests}
 use Rattle.machine_names.specs.Orders.{FilePage, file_page}
-use Rattle.machine_names.specs.declared.names.FileNo.{FileNo}
 use Rattle.machine_names.specs.declared.names.ForkName.{ForkName}
 use Rattle.machine_names.specs.declared.names.PageName.{PageName}
 use Rattle.machine_names.specs.declared.names.Tty.{Tty}
@@ -17,12 +15,11 @@ use Rattle.script_texts.specs.declared.event.Event.TheVariants.{Auto, Drum, Evic
 use Rattle.plain_model.specs.declared.fork.Fork.{Fork}
 use Rattle.plain_model.specs.MapCalls.{keyed}
 use Rattle.plain_model.specs.State.{PlainJob}
-use Rattle.plain_pages.specs.References.{in_file, in_map, page_at, slot_at}
+use Rattle.plain_pages.specs.References.{in_file, page_at}
 use Rattle.plain_files.specs.NamedFiles.{name_of}
 use Rattle.plain_files.specs.OpenFiles.{open_at}
 use Rattle.page_contracts.specs.DrumWords.{DrumWords}
 use Rattle.page_contracts.specs.Pages.{Agrees, StandsInFile, page_away}
-use Rattle.page_contracts.specs.declared.answers.Need.{Need}
 use Rattle.page_contracts.specs.declared.answers.Need.TheVariants.{Page}
 use Rattle.page_homes.specs.declared.homes.Home.{Home}
 use Rattle.file_tables.specs.declared.tables.FileTables.{FileTables}

@@ -1,9 +1,9 @@
 -- What is true of a store is true of what has it in it.
-use Rattle.std.proofs.Common.{◌≡◌, ◌≢◌, ℕ, ap, refl}
+use Rattle.std.proofs.Common.{◌≡◌, ℕ}
 use Rattle.page_contracts.specs.declared.answers.Need.{Need}
 use Rattle.page_contracts.specs.declared.answers.Need.TheVariants.{Frame, Page}
 use Rattle.page_contracts.specs.declared.store.Completed.{Completed}
-use Rattle.page_contracts.specs.Stores.{CanKeep, CanLeave, Completes, Ends, Evicts, HasFrame, IsFetched, IsNeeded, IsNext, IsSound, Keeps, LetsGo, StaysFramed, StaysPlanned, StaysQueued, StaysStored, StaysThere, StoreMeaning, Tells}
+use Rattle.page_contracts.specs.Stores.{CanKeep, CanLeave, Completes, Ends, Evicts, IsFetched, IsNeeded, IsNext, IsSound, Keeps, LetsGo, StaysFramed, StaysPlanned, StaysQueued, StaysStored, StaysThere, StoreMeaning, Tells}
 use Rattle.std.specs.Prelude.{Option, Some, None, MatchOption}
 use Rattle.paged_system.specs.Over.{over}
 

@@ -1,29 +1,22 @@
 -- Where nothing but the places of pages has changed, the plain state of a system is as it was, and so is to which homes each task refers.
-use Rattle.std.proofs.Common.{◌≡◌, ℕ, ◌≤◌, ◌+◌, ◌*◌, List, length, Option, None, Some, refl, sym, ◌∙◌, ap, subst, arith}
+use Rattle.std.proofs.Common.{◌≡◌, ℕ, ◌≤◌, ◌+◌, ◌*◌, List, refl, sym, ◌∙◌, ap, subst, arith}
 use Rattle.std.specs.Option.{option_and_then}
 use Rattle.std.specs.FinMap as fin
 use Rattle.machine_names.specs.Orders.{file_page}
-use Rattle.machine_names.specs.declared.names.ForkName.{ForkName}
-use Rattle.machine_names.specs.declared.names.PageName.{PageName}
 use Rattle.machine_names.specs.declared.names.Tty.{Tty}
-use Rattle.plain_model.specs.declared.fork.Fork.{Fork}
-use Rattle.plain_model.specs.State.{PlainState}
 use Rattle.plain_model.specs.Trees.{PlainTree}
 use Rattle.plain_files.specs.NamedFiles.{AreFiled, name_of}
 use Rattle.plain_pages.specs.PlainPages.{NumberedPages}
 use Rattle.plain_pages.specs.References.{in_file, page_at}
 use Rattle.page_contracts.specs.DrumWords.{DrumWords}
 use Rattle.page_contracts.specs.Pages.{AreHoused, StaysPlain}
-use Rattle.page_contracts.specs.Stores.{HomePlace, away_of}
-use Rattle.fork_tree.specs.Trees.{Lives}
+use Rattle.page_contracts.specs.Stores.{away_of}
 use Rattle.file_tables.specs.Keys.{key_of}
 use Rattle.file_tables.specs.Tables.{IsThere, files_of, open_of}
 use Rattle.file_tables.specs.declared.tables.FileTables.{FileTables}
 use Rattle.job_forks.specs.Holding.{StaysHomed}
 use Rattle.event_deeds.specs.declared.answer.Showing.{Showing}
 use Rattle.event_deeds.specs.declared.answer.Showing.TheVariants.{Echo, Reply, Told}
-use Rattle.event_deeds.specs.declared.deed.Deed.{Deed}
-use Rattle.event_deeds.specs.Deeds.{Task}
 use Rattle.step_shown.specs.declared.reply.Reply.{Reply as AReply}
 use Rattle.step_shown.specs.declared.reply.Reply.TheVariants as reply
 use Rattle.step_wants.specs.Homes.{told, wants}
@@ -31,13 +24,12 @@ use Rattle.monitor_calls.specs.ForkUnit.{parts_in, rest_of, tables_in}
 use Rattle.monitor_calls.specs.Jobs.{jobs_of}
 use Rattle.monitor_calls.specs.Makings.{most_makings}
 use Rattle.monitor_core.specs.declared.panel.Panel.{Panel}
-use Rattle.monitor_core.specs.declared.system.System.{System}
-use Rattle.monitor_core.specs.Needing.{ShownAt, tables_of}
+use Rattle.monitor_core.specs.Needing.{ShownAt}
 use Rattle.monitor_core.specs.Systems.{FitsPages, IsWithin, named, state_of}
 use Rattle.monitor_core.specs.Transfers.{StaysBeside}
 use Rattle.page_waits.specs.Systems.{SameOver, StaysState, StaysTold}
 use Rattle.paged_system.specs.declared.paged.Paged.{Paged}
-use Rattle.paged_system.specs.Paging.{gives_in, paged, parts_of, told_of, wants_of}
+use Rattle.paged_system.specs.Paging.{gives_in, paged, told_of, wants_of}
 
 module _ {P : Type 0} {b : _} (old new : Paged P b) (beside : StaysBeside old.system new.system) (homed : StaysHomed b.means old.system.pages new.system.pages) where
   told_same : told_of new ≡ told_of old

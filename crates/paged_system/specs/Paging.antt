@@ -1,8 +1,6 @@
 -- What the clauses of page waits say of a system over pages.
-use Rattle.std.specs.Prelude.{◌≡◌, ℕ, List, None, Some}
+use Rattle.std.specs.Prelude.{ℕ, List}
 use Rattle.std.specs.Ordering.{nat_cmp}
-use Rattle.machine_names.specs.declared.names.FileNo.{FileNo}
-use Rattle.machine_names.specs.declared.names.Place.TheVariants.{File as InFile}
 use Rattle.page_contracts.specs.DrumWords.{DrumWords}
 use Rattle.page_contracts.specs.Stores.{StoreMeaning}
 use Rattle.plain_model.specs.Families.{Parts}

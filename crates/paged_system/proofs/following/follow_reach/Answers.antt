@@ -1,4 +1,4 @@
-use Rattle.std.proofs.Common.{◌≡◌, ◌∙◌, ap, sym, subst}
+use Rattle.std.proofs.Common.{◌∙◌, ap, sym, subst}
 use Rattle.machine_names.specs.Bounds.{IsTerminal}
 use Rattle.fork_calls.proofs.OtherRuns.{body_runs, runs_other}
 use Rattle.machine_events.proofs.ListsTied.{can_follow, tied_followed, tied_own}

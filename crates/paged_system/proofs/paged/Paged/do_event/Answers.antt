@@ -1,9 +1,6 @@
-use Rattle.std.proofs.Common.{◌≡◌, ℕ, List, true, sym, ◌∙◌, ap, subst}
+use Rattle.std.proofs.Common.{◌≡◌, sym, ◌∙◌, ap, subst}
 use Rattle.event_deeds.specs.declared.deed.Deed.TheVariants.{Outer}
 use Rattle.event_deeds.specs.Deeds.{deed_of}
-use Rattle.fork_lists.specs.Ties.{AreTied}
-use Rattle.job_sched.specs.Schedules.{Schedule}
-use Rattle.page_contracts.specs.declared.answers.Need.{Need}
 use Rattle.page_contracts.specs.declared.answers.Need.TheVariants.{Page}
 use Rattle.plain_model.specs.Moves.{moves}
 use Rattle.plain_model.specs.Trees.{PlainTree}
@@ -12,7 +9,7 @@ use Rattle.file_tables.specs.Keys.{key_of}
 use Rattle.monitor_core.specs.Needing.{EventNeeds}
 use Rattle.turn_forms.specs.Turns.{KeepSlots, moved}
 use Rattle.page_waits.specs.Seats.{has}
-use Rattle.paged_system.specs.Paging.{parts_of, wants_of}
+use Rattle.paged_system.specs.Paging.{parts_of}
 use Rattle.paged_system.proofs.DeedDone.{deed_waits, event_did, same, told_as}
 use Rattle.paged_system.proofs.Needing.{event_needs, event_told}
 use Rattle.paged_system.proofs.paged.Paged.do_event.Goals as goal
@@ -55,9 +52,9 @@ returns-in-Err-clause-needs g c =
     let housed' = g.met.P.Pages.housed m.pages in
     deed_waits old new c.in-Err.need waits housed housed' (λ flat. (let wrong = c.in-Err.ensures.core flat in cc wrong)) x
     (λ d home fits is. let stays = same old new c.in-Err.need waits housed housed' d fits in
-        ap (λ w. has home.0 (w (deed_of x))) (sym stays.wants)
-        ∙ c.what_is_needed_is_wanted.ensures.deeds (key_of m.files) (means.scene m.pages) (parts_of new d) x (means.map_home m.pages) (means.page_home m.pages) home.0 (c.homes_are_of_pages.ensures.homed m.pages)
-            (event_needs new d stays.fits c.args.e.now home (subst (EventNeeds m c.args.e.now) is c.in-Err.ensures.reason)))
+    ap (λ w. has home.0 (w (deed_of x))) (sym stays.wants)
+    ∙ c.what_is_needed_is_wanted.ensures.deeds (key_of m.files) (means.scene m.pages) (parts_of new d) x (means.map_home m.pages) (means.page_home m.pages) home.0 (c.homes_are_of_pages.ensures.homed m.pages)
+    (event_needs new d stays.fits c.args.e.now home (subst (EventNeeds m c.args.e.now) is c.in-Err.ensures.reason)))
 
 pub returns-in-Err-clause-told : goal.returns-in-Err-clause-told
 returns-in-Err-clause-told g c home told is =

@@ -1,5 +1,4 @@
-use Rattle.std.proofs.Common.{◌≡◌, ℕ, List, true, sym, ◌∙◌, ap, subst}
-use Rattle.event_deeds.specs.Deeds.{IsTold, deed_of}
+use Rattle.std.proofs.Common.{◌≡◌, sym, ◌∙◌, ap, subst}
 use Rattle.page_contracts.specs.declared.answers.Need.TheVariants.{Page}
 use Rattle.plain_model.specs.Moves.{moves}
 use Rattle.plain_model.specs.Trees.{PlainTree}
@@ -46,9 +45,9 @@ returns-in-Err-clause-needs g c =
     let x = c.args.deed.now in
     deed_waits old new c.in-Err.need c.in-Err.ensures.waits (g.met.P.Pages.housed m.pages) (g.met.P.Pages.housed c.part.new.self.pages) (λ flat. (let wrong = c.in-Err.ensures.core flat in cc wrong)) x
     (λ d home fits is.
-        ap (has home.0) (c.the_tables_tell.ensures (key_of m.files) (parts_of old d) x (means.map_home m.pages) (means.page_home m.pages) (is_told x c.requires.part.1)
-            ∙ ap (λ filed. told (means.map_home m.pages) (means.page_home m.pages) (key_of m.files) filed m.tree.forks (parts_of old d).jobs x) (same_filed old d fits (g.met.P.Pages.agrees m.pages d fits.pages)))
-        ∙ part_told old x home (subst (PartNeeds m x) is c.in-Err.ensures.needs))
+    ap (has home.0) (c.the_tables_tell.ensures (key_of m.files) (parts_of old d) x (means.map_home m.pages) (means.page_home m.pages) (is_told x c.requires.part.1)
+    ∙ ap (λ filed. told (means.map_home m.pages) (means.page_home m.pages) (key_of m.files) filed m.tree.forks (parts_of old d).jobs x) (same_filed old d fits (g.met.P.Pages.agrees m.pages d fits.pages)))
+    ∙ part_told old x home (subst (PartNeeds m x) is c.in-Err.ensures.needs))
 
 pub returns-in-Err-clause-told : goal.returns-in-Err-clause-told
 returns-in-Err-clause-told g c home told is =

@@ -3,9 +3,8 @@ use Rattle.std.specs.FinMap as map
 use Rattle.event_deeds.specs.Deeds.{unit_of}
 use Rattle.fork_lists.specs.Ties.{AreTied}
 use Rattle.job_sched.proofs.Waits.{size_ran}
-use Rattle.job_sched.specs.Schedules.{Schedule, size}
+use Rattle.job_sched.specs.Schedules.{size}
 use Rattle.job_sched.specs.Ties.{WaitsLess}
-use Rattle.job_sched.specs.Units.{row_ran}
 use Rattle.machine_names.specs.Bounds.{IsForkName}
 use Rattle.machine_names.specs.declared.names.ForkName.{ForkName}
 use Rattle.machine_events.proofs.ListsTied.{fewer_row}
