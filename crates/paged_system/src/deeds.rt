@@ -33,11 +33,11 @@ impl<P: Pages> Paged<P> {
         ensures waits { IfOk result (λ answer. WaitsLess lists.old.sched.waiting lists.new.sched.waiting) }
         ensures set { size lists.new.sched ≡ size lists.old.sched }
         ensures needs { IfErr result (Needs paged (deed_of (ADeed.Outer e.now)) self.old self.new) }
-        ensures told { (home : AHome) → IsTold (ADeed.Outer e.now) → result ≡ Err (ANeed.Page home) → has home.0 (paged.told self.old (ADeed.Outer e.now)) ≡ true }
+        ensures told { (home : AHome) → IsTold (ADeed.Outer e.now) → result ≡ Err (ANeed.Page home)
+            → has home.0 (paged.told self.old (ADeed.Outer e.now)) ≡ true }
         ensures stays { IfErr result (λ need. lists.new ≡ lists.old) }
     {
         what_is_needed_is_wanted();
-        the_tables_tell();
         homes_are_of_pages::<P>();
         self.system.trees();
         match self.system.apply(e) {
@@ -62,7 +62,8 @@ impl<P: Pages> Paged<P> {
         ensures waits { IfOk result (λ answer. WaitsLess lists.old.sched.waiting lists.new.sched.waiting) }
         ensures set { size lists.new.sched ≡ size lists.old.sched }
         ensures needs { IfErr result (Needs paged (deed_of deed.now) self.old self.new) }
-        ensures told { (home : AHome) → IsTold deed.now → result ≡ Err (ANeed.Page home) → has home.0 (paged.told self.old deed.now) ≡ true }
+        ensures told { (home : AHome) → IsTold deed.now → result ≡ Err (ANeed.Page home)
+            → has home.0 (paged.told self.old deed.now) ≡ true }
         ensures stays { IfErr result (λ need. lists.new ≡ lists.old) }
     {
         the_tables_tell();
@@ -87,7 +88,8 @@ impl<P: Pages> Paged<P> {
         ensures waits { IfOk result (λ answer. WaitsLess lists.old.sched.waiting lists.new.sched.waiting) }
         ensures set { size lists.new.sched ≡ size lists.old.sched }
         ensures needs { IfErr result (Needs paged (deed_of deed.now) self.old self.new) }
-        ensures told { (home : AHome) → IsTold deed.now → result ≡ Err (ANeed.Page home) → has home.0 (paged.told self.old deed.now) ≡ true }
+        ensures told { (home : AHome) → IsTold deed.now → result ≡ Err (ANeed.Page home)
+            → has home.0 (paged.told self.old deed.now) ≡ true }
         ensures stays { IfErr result (λ need. lists.new ≡ lists.old) }
     {
         match deed {
