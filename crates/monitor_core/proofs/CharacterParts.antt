@@ -24,20 +24,20 @@ use Rattle.machine_names.specs.declared.names.Tty.{Tty}
 use Rattle.page_contracts.specs.DrumWords.{DrumWords}
 use Rattle.plain_pages.specs.References.{page_at}
 use Rattle.plain_model.specs.FileEvents.{page_named}
-use Rattle.plain_model.specs.Forks.{ForkMap, OthersStay}
+use Rattle.plain_model.specs.Forks.{ForkMap}
 use Rattle.plain_model.specs.State.{PlainJob, PlainState}
 use Rattle.plain_model.specs.TypeEvents.{echo, typed_at}
 use Rattle.plain_model.specs.Unit.{Effect}
 use Rattle.plain_model.specs.declared.fork.Fork.{Fork}
 use Rattle.script_texts.specs.declared.event.Item.{Item}
 use Rattle.step_shown.specs.Echoes.{echo_items, told_items}
-use Rattle.step_shown.specs.Reaching.{EchoReaches}
+use Rattle.monitor_core.specs.Reaching.{ChangesJob, PartReaches}
 use Rattle.step_shown.specs.declared.echo.Echo.{Echo as Echoed}
 use Rattle.step_shown.specs.declared.echo.Echo.TheVariants.{Ends}
 use Rattle.step_shown.specs.declared.echo.Told.{Told as Printed}
 use Rattle.step_shown.specs.declared.echo.Told.TheVariants.{Nothing as Silent}
 use Rattle.monitor_core.specs.declared.system.System.{System}
-use Rattle.monitor_core.specs.Deeds.{Does, FitsPart, IsBehind, IsPrinted, IsShownSo, PartPrints, PartReaches, Prints, effect_of}
+use Rattle.monitor_core.specs.Deeds.{Does, FitsPart, IsBehind, IsPrinted, IsShownSo, PartPrints, Prints, effect_of}
 use Rattle.monitor_core.specs.Effects.{Has}
 use Rattle.monitor_core.specs.Systems.{FitsPages, state_of}
 use Rattle.monitor_core.proofs.HasDone.{has_as, has_left}
@@ -110,10 +110,10 @@ prints_so t (End u purpose) answer b p = subst (λ v. Prints v answer) b p
 prints_so t (Outer e) answer b p = absurd b
 prints_so t (Typed u c) answer b p = absurd b
 
-pub printed_others : (t : Tty) (shown : Showing) (old new : ForkMap) → IsPrinted t shown → PartReaches shown old new → OthersStay t old new
-printed_others t (Reply reply) old new p r = absurd p
-printed_others t (Echo u shown) old new p r = absurd p
-printed_others t (Told u shown) old new p r = subst (λ v. OthersStay v old new) p r
+pub printed_changes : (t : Tty) (shown : Showing) (old new : ForkMap) → IsPrinted t shown → PartReaches shown old new → ChangesJob t old new
+printed_changes t (Reply reply) old new p r = absurd p
+printed_changes t (Echo u shown) old new p r = absurd p
+printed_changes t (Told u shown) old new p r = subst (λ v. ChangesJob v old new) p r
 
 module _ {P : Type 0} {b : _} where
   -- the last part

@@ -1,8 +1,8 @@
--- Which forks stay where the top fork of a terminal's job is changed, or one is made there.
-use Rattle.std.proofs.Common.{◌≡◌, ℕ, ◌<◌, ◌≤◌, Bool, Option, None, Some, true, false, inl, inr, refl, ap, sym, subst}
+-- Which forks stay, and that each is in its slot, where the top fork of a terminal's job is changed, or one is made there.
+use Rattle.std.proofs.Common.{◌≡◌, ℕ, ◌<◌, ◌≤◌, Bool, Option, None, Some, true, false, inl, inr, refl, ap, sym, ◌∙◌, subst}
 use Rattle.std.proofs.lemmas.Bool.{cases_lt}
 use Rattle.std.specs.Prelude.{if◌then◌else◌}
-use Rattle.std.specs.Option.{option_map_or}
+use Rattle.std.specs.Option.{option_map, option_map_or}
 use Rattle.std.specs.FinMap as map
 use Rattle.machine_names.specs.declared.names.ForkName.{ForkName}
 use Rattle.machine_names.specs.declared.names.TheConstants.{ACCUMULATORS}
@@ -13,63 +13,135 @@ use Rattle.plain_model.specs.declared.fork.TerminalMode.TheVariants.{Command, Pr
 use Rattle.plain_model.specs.Forks.{ForkMap, OthersStay}
 use Rattle.plain_model.specs.Interrupts.{channels_of}
 use Rattle.plain_model.specs.Posting.{with_all_posted}
-use Rattle.plain_model.specs.Trees.{PlainTree, free_slot, new_fork, next_name, readers_woken, with_changed_of, with_mark}
-use Rattle.plain_model.proofs.OtherJobs.{named_others, others_alike, others_on, posted_others, put_others, readers_job}
+use Rattle.plain_model.specs.Trees.{PlainTree, changed, free_slot, new_fork, next_name, readers_woken, with_changed_of, with_mark}
+use Rattle.plain_model.proofs.ForkMaps.{cases_name, get_put, get_put_other}
+use Rattle.plain_model.proofs.OtherJobs.{named_others, others_alike, others_itself, posted_others, put_others, readers_job}
 use Rattle.fork_tree.specs.Making.{with_new, with_new_in}
-use Rattle.fork_tree.specs.Trees.{IsTree}
+use Rattle.fork_tree.specs.Trees.{AreSlotted, IsTree}
+use Rattle.fork_tree.proofs.Kept.{name_unused}
+use Rattle.fork_tree.proofs.Slots.{held_lives}
+use Rattle.job_forks.specs.Holding.{ComeFrom, SamePlaces}
+use Rattle.psi_calls.proofs.PostedKeeps.{channels_keep}
 use Rattle.step_shown.specs.declared.echo.Echo.{Echo}
 use Rattle.step_shown.specs.declared.echo.Echo.TheVariants.{Shows, Wakes}
 use Rattle.monitor_calls.specs.declared.job.Job.{Job}
-use Rattle.step_shown.specs.Reaching.{EchoReaches}
 use Rattle.monitor_core.specs.declared.system.System.{System}
 use Rattle.monitor_core.specs.Effects.{stopped_tree}
+use Rattle.monitor_core.specs.Reaching.{BeginsJob, ChangesJob, EchoReaches, WereInSlots}
+use Rattle.monitor_core.proofs.CommandDid.{readers_keep}
 use Rattle.monitor_calls.specs.Jobs.{job_at}
-use Rattle.monitor_calls.proofs.ReachDid.{others_same}
+use Rattle.turn_forms.specs.Turns.{KeepSlots}
+
+-- ---- slots
+
+pub slots_itself : (m : ForkMap) → WereInSlots m m
+slots_itself m f h is = ap (option_map (λ (g : Fork). g.slot)) is
+
+-- the same forks live, each in its slot
+slots_placed : (old new : ForkMap) → SamePlaces old new → WereInSlots old new
+slots_placed old new same f h is = sym (same f) ∙ ap (option_map (λ (g : Fork). g.slot)) is
+
+-- each that lives stands where one stood of its name
+slots_came : (old new : ForkMap) → AreSlotted new → ComeFrom old new → WereInSlots old new
+slots_came old new slotted come f h is =
+    let named : h.name ≡ f = slotted.own f h is in
+    let c = come h (held_lives new slotted f h is) in
+    let there : map.get old f ≡ Some c.before = ap (map.get old) (sym named ∙ c.name) ∙ c.lived in
+    ap (option_map (λ (g : Fork). g.slot)) there ∙ ap Some (sym c.slot)
+
+-- one is changed, in its slot
+slots_changed : (m : ForkMap) (change : Fork → Fork) → ((k : Fork) → (change k).slot ≡ k.slot) → (o : Option Fork) → ((k : Fork) → o ≡ Some k → map.get m k.name ≡ Some k) → WereInSlots m (changed m change o)
+slots_changed m change still None lives f h is = slots_itself m f h is
+slots_changed m change still (Some k) lives f h is = elim (cases_name f k.name) [
+  | inl at ↦
+      let both : Some (change k) ≡ Some h = sym (get_put m k.name f (change k) at) ∙ is in
+      let same : change k ≡ h = cc both in
+      ap (option_map (λ (g : Fork). g.slot)) (ap (map.get m) at ∙ lives k refl) ∙ ap Some (sym (still k) ∙ ap (λ (g : Fork). g.slot) same)
+  | inr ne ↦ ap (option_map (λ (g : Fork). g.slot)) (sym (get_put_other m k.name f (change k) ne) ∙ is)
+]
+
+-- who was in a slot before and is there after
+slots_on : (a b c : ForkMap) → WereInSlots a b → WereInSlots b c → WereInSlots a c
+slots_on a b c first second f h is = by (map.get b f) refl (second f h is)
+  where
+    by : (o : Option Fork) → map.get b f ≡ o → option_map (λ (g : Fork). g.slot) o ≡ Some h.slot → option_map (λ (g : Fork). g.slot) (map.get a f) ≡ Some h.slot
+    by None none e = absurd (cc e)
+    by (Some k) found e = first f k found ∙ e
+
+-- ---- jobs
+
+-- all is as it was
+pub job_same : (t : Tty) (old new : ForkMap) → new ≡ old → ChangesJob t old new
+job_same t old new same = subst (ChangesJob t old) (sym same) (others_itself t old, slots_itself old)
+
+pub begins_same : (t : Tty) (old new : ForkMap) → new ≡ old → BeginsJob t old new
+begins_same t old new same = subst (BeginsJob t old) (sym same) (others_itself t old, λ f g h was is. (let both : Some h ≡ Some g = sym is ∙ was in let one : h ≡ g = cc both in ap (λ (k : Fork). k.slot) one))
+
+-- a job changes twice
+pub job_on : (t : Tty) (a b c : ForkMap) → ChangesJob t a b → ChangesJob t b c → ChangesJob t a c
+job_on t a b c first second = (λ name other. second.0 name other ∙ first.0 name other, slots_on a b c first.1 second.1)
 
 module _ {P : Type 0} {b : _} (m : System P b) (t : Tty) (j : Job) (at : job_at m.jobs.items t.0 ≡ Some j) where
   -- its top fork is of the terminal
-  pub top_others : (new : ForkMap) → OthersStay j.top.tty m.tree.forks new → OthersStay t m.tree.forks new
+  top_others : (new : ForkMap) → OthersStay j.top.tty m.tree.forks new → OthersStay t m.tree.forks new
   top_others new stay = others_alike t j.top.tty m.tree.forks new (m.sound.each_job t.0 j at).terminal stay
 
-  pub top_changed : IsTree m.tree → (change : Fork → Fork) (new : PlainTree) → new ≡ with_changed_of m.tree j.top change → OthersStay t m.tree.forks new.forks
-  top_changed trees change new is =
-      top_others new.forks
-      (others_on j.top.tty m.tree.forks (with_changed_of m.tree j.top change).forks new.forks (named_others m.tree trees.slotted.own j.top change)
-      (others_same j.top.tty (with_changed_of m.tree j.top change).forks new.forks (ap (λ (x : PlainTree). x.forks) is)))
+  -- each fork that is left stands where it stood
+  pub top_left : (new : ForkMap) → AreSlotted new → ComeFrom m.tree.forks new → OthersStay j.top.tty m.tree.forks new → ChangesJob t m.tree.forks new
+  top_left new slotted come stay = (top_others new stay, slots_came m.tree.forks new slotted come)
+
+  pub top_changed : IsTree m.tree → (change : Fork → Fork) → ((k : Fork) → (change k).slot ≡ k.slot) → (new : PlainTree) → new ≡ with_changed_of m.tree j.top change → ChangesJob t m.tree.forks new.forks
+  top_changed trees change still new is =
+      let forks = m.tree.forks in
+      let whole = (with_changed_of m.tree j.top change).forks in
+      let slots = slots_changed forks change still (map.get forks j.top) (λ k there. held_lives forks trees.slotted j.top k there) in
+      subst (λ (x : PlainTree). ChangesJob t forks x.forks) (sym is) (top_others whole (named_others m.tree trees.slotted.own j.top change), slots)
 
   -- it is stopped
-  pub top_stopped : IsTree m.tree → (mode : TerminalMode) (new : PlainTree) → new ≡ stopped_tree mode m.tree j.top → OthersStay t m.tree.forks new.forks
-  top_stopped trees Program new is = top_changed trees (with_mark true) new is
-  top_stopped trees Command new is = others_same t m.tree.forks new.forks (ap (λ (x : PlainTree). x.forks) is)
+  pub top_stopped : IsTree m.tree → (mode : TerminalMode) (new : PlainTree) → new ≡ stopped_tree mode m.tree j.top → ChangesJob t m.tree.forks new.forks
+  top_stopped trees Program new is = top_changed trees (with_mark true) (λ k. refl) new is
+  top_stopped trees Command new is = job_same t m.tree.forks new.forks (ap (λ (x : PlainTree). x.forks) is)
 
   -- a word is put into an accumulator of it, or into a page
-  pub top_poked : IsTree m.tree → (address : ℕ) (change : Fork → Fork) (new : PlainTree) → (address < ACCUMULATORS → new ≡ with_changed_of m.tree j.top change) → (ACCUMULATORS ≤ address → new ≡ m.tree) → OthersStay t m.tree.forks new.forks
-  top_poked trees address change new low high = elim (cases_lt address ACCUMULATORS) [
-    | inl below ↦ top_changed trees change new (low below)
-    | inr above ↦ others_same t m.tree.forks new.forks (ap (λ (x : PlainTree). x.forks) (high above))
+  pub top_poked : IsTree m.tree → (address : ℕ) (change : Fork → Fork) → ((k : Fork) → (change k).slot ≡ k.slot) → (new : PlainTree) → (address < ACCUMULATORS → new ≡ with_changed_of m.tree j.top change)
+      → (ACCUMULATORS ≤ address → new ≡ m.tree) → ChangesJob t m.tree.forks new.forks
+  top_poked trees address change still new low high = elim (cases_lt address ACCUMULATORS) [
+    | inl below ↦ top_changed trees change still new (low below)
+    | inr above ↦ job_same t m.tree.forks new.forks (ap (λ (x : PlainTree). x.forks) (high above))
   ]
 
 -- who waits for a character of a job runs again
-pub readers_stay : (tree new : PlainTree) → IsTree tree → (t : Tty) → new ≡ record tree { forks = readers_woken tree.forks t } → OthersStay t tree.forks new.forks
-readers_stay tree new trees t is =
-    others_on t tree.forks (readers_woken tree.forks t) new.forks (readers_job tree.forks trees.slotted.own t).others (others_same t (readers_woken tree.forks t) new.forks (ap (λ (x : PlainTree). x.forks) is))
+pub readers_change : (tree new : PlainTree) → IsTree tree → (t : Tty) → new ≡ record tree { forks = readers_woken tree.forks t } → ChangesJob t tree.forks new.forks
+readers_change tree new trees t is =
+    let own = trees.slotted.own in
+    subst (λ (x : PlainTree). ChangesJob t tree.forks x.forks) (sym is) ((readers_job tree.forks own t).others, slots_placed tree.forks (readers_woken tree.forks t) (readers_keep tree.forks own t).same)
 
 -- so a character that is stored reaches forks of the job where it may have woken one, and else none
-pub stored_reaches : (t : Tty) (may : Bool) (code : ℕ) (shown : Echo) → shown ≡ (if may then Wakes code else Shows code) → (old new : ForkMap) → (may ≡ false → new ≡ old) → OthersStay t old new → EchoReaches t shown old new
-stored_reaches t true code shown is old new none others = subst (λ e. EchoReaches t e old new) (sym is) others
-stored_reaches t false code shown is old new none others = subst (λ e. EchoReaches t e old new) (sym is) (none refl)
+pub stored_reaches : (t : Tty) (may : Bool) (code : ℕ) (shown : Echo) → shown ≡ (if may then Wakes code else Shows code) → (old new : ForkMap) → (may ≡ false → new ≡ old) → ChangesJob t old new → EchoReaches t shown old new
+stored_reaches t true code shown is old new none changes = subst (λ e. EchoReaches t e old new) (sym is) changes
+stored_reaches t false code shown is old new none changes = subst (λ e. EchoReaches t e old new) (sym is) (none refl)
 
 -- channels are posted to a fork of a name
-pub posts_stay : (tree new : PlainTree) → IsTree tree → (name : ForkName) (word : ℕ) → new ≡ record tree { forks = option_map_or (with_all_posted tree.forks (channels_of word)) (map.get tree.forks name) tree.forks }
-    → OthersStay name.tty tree.forks new.forks
-posts_stay tree new trees name word is =
+pub posts_change : (tree new : PlainTree) → IsTree tree → (name : ForkName) (word : ℕ) → new ≡ record tree { forks = option_map_or (with_all_posted tree.forks (channels_of word)) (map.get tree.forks name) tree.forks }
+    → ChangesJob name.tty tree.forks new.forks
+posts_change tree new trees name word is =
+    let own = trees.slotted.own in
     let posted = option_map_or (with_all_posted tree.forks (channels_of word)) (map.get tree.forks name) tree.forks in
-    others_on name.tty tree.forks posted new.forks (posted_others tree.forks trees.slotted.own name (channels_of word)) (others_same name.tty posted new.forks (ap (λ (x : PlainTree). x.forks) is))
+    subst (λ (x : PlainTree). ChangesJob name.tty tree.forks x.forks) (sym is) (posted_others tree.forks own name (channels_of word), slots_placed tree.forks posted (channels_keep tree.forks own word name).same)
 
--- a top fork is made
-pub made_stays : (tree new : PlainTree) (t : Tty) (superior : Option ℕ) → new ≡ with_new tree t superior → OthersStay t tree.forks new.forks
-made_stays tree new t superior is = others_on t tree.forks (with_new tree t superior).forks new.forks (by (free_slot tree.forks t)) (others_same t (with_new tree t superior).forks new.forks (ap (λ (x : PlainTree). x.forks) is))
+-- a top fork is made, under a name that nobody had
+pub made_begins : (tree new : PlainTree) → IsTree tree → (t : Tty) (superior : Option ℕ) → new ≡ with_new tree t superior → BeginsJob t tree.forks new.forks
+made_begins tree new trees t superior is = subst (λ (x : PlainTree). BeginsJob t tree.forks x.forks) (sym is) (by (free_slot tree.forks t))
   where
-    by : (o : Option ℕ) → OthersStay t tree.forks (option_map_or (with_new_in tree t superior) o tree).forks
-    by None = others_same t tree.forks tree.forks refl
-    by (Some slot) = put_others t tree.forks (new_fork (next_name tree t) slot superior) refl
+    by : (o : Option ℕ) → BeginsJob t tree.forks (option_map_or (with_new_in tree t superior) o tree).forks
+    by None = begins_same t tree.forks tree.forks refl
+    by (Some slot) = (put_others t tree.forks f refl, keeps)
+      where
+        f : Fork
+        f = new_fork (next_name tree t) slot superior
+
+        keeps : KeepSlots tree.forks (map.insert tree.forks f.name f)
+        keeps n g h was now = elim (cases_name n f.name) [
+          | inl at ↦ absurd (let no : Some g ≡ None = sym was ∙ ap (map.get tree.forks) at ∙ name_unused tree t trees in cc no)
+          | inr ne ↦ let both : Some h ≡ Some g = sym now ∙ get_put_other tree.forks f.name n f ne ∙ was in let one : h ≡ g = cc both in ap (λ (k : Fork). k.slot) one
+        ]

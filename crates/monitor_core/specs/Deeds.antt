@@ -10,7 +10,6 @@ use Rattle.plain_files.specs.NamedFiles.{name_of}
 use Rattle.plain_files.specs.Sizes.{PlainFile}
 use Rattle.plain_typing.specs.declared.command.Command.{Command}
 use Rattle.plain_typing.specs.declared.command.Command.TheVariants as command
-use Rattle.plain_model.specs.Forks.{ForkMap, OthersStay}
 use Rattle.plain_model.specs.State.{PlainState}
 use Rattle.plain_model.specs.Unit.{Effect}
 use Rattle.event_deeds.specs.declared.answer.Answer.{Answer}
@@ -29,7 +28,6 @@ use Rattle.step_shown.specs.declared.echo.Echo.TheVariants.{Ends}
 use Rattle.step_shown.specs.declared.echo.Told.{Told as Printed}
 use Rattle.step_shown.specs.declared.echo.Told.TheVariants.{Nothing as Silent}
 use Rattle.step_shown.specs.Echoes.{FitsEcho}
-use Rattle.step_shown.specs.Reaching.{EchoReaches}
 use Rattle.monitor_calls.specs.declared.job.Job.{Job}
 use Rattle.monitor_core.specs.declared.system.System.{System}
 use Rattle.monitor_core.specs.Effects.{Has, HasJobAt}
@@ -63,12 +61,6 @@ once t shown = record { showing = Echo t shown; next = None }
 -- the end of a line, what its command prints so far, and what comes next of it
 abbrev pub line_end : Tty → Printed → Option Deed → Answer
 line_end t told next = record { showing = Echo t (Ends told); next = next }
-
--- how far a part of a character reaches among the forks that shows this
-abbrev pub PartReaches : Showing → ForkMap → ForkMap → Type 0
-PartReaches (Reply reply) old new = ⊥
-PartReaches (Echo t shown) old new = EchoReaches t shown old new
-PartReaches (Told t shown) old new = OthersStay t old new
 
 -- a character shows what its terminal shows of it; where a command comes next, that is the end of its line alone
 abbrev pub IsShownSo : Tty → Option Deed → Showing → Type 0

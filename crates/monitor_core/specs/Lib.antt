@@ -4,3 +4,4 @@ pub mod Transfers
 pub mod Effects
 pub mod Needing
 pub mod Deeds
+pub mod Reaching

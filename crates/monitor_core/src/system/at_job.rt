@@ -1,12 +1,12 @@
 // The events of a terminal's job.
 ghost use Rattle.std.specs.Prelude.{◌≡◌, ◌^◌, IfErr, IfOk, IsOk, true};
 ghost use Rattle.machine_names.specs.Bounds.{IsTerminal};
-ghost use Rattle.plain_model.specs.Forks.{OthersStay};
 ghost use Rattle.script_texts.specs.declared.event.Step.{Step as AStep};
 ghost use Rattle.monitor_core.specs.JobEvents.{event_at, FitsJobEvent};
 ghost use Rattle.step_shown.specs.Replies.{reply_of};
 ghost use Rattle.monitor_core.specs.Needing.{CanShow, EventNeeds};
 ghost use Rattle.monitor_core.specs.Systems.{Did, IsWithin, Waits, event_frames};
+ghost use Rattle.monitor_core.specs.Reaching.{ChangesJob};
 
 use crate::job_event::JobEvent;
 use crate::system::System;
@@ -28,7 +28,7 @@ impl<P: Pages> System<P> {
         ensures waits { IfErr result (Waits event_frames self.old self.new) }
         ensures reason { IfErr result (EventNeeds self.new (event_at t e)) }
         ensures core { P.means.flat ≡ true → IsOk result }
-        ensures others { OthersStay t self.old.tree.forks self.new.tree.forks }
+        ensures others { ChangesJob t self.old.tree.forks self.new.tree.forks }
     {
         self.tree.are_trees();
         let Some(job) = &mut self.jobs[t.0 as usize] else {

@@ -13,11 +13,11 @@ ghost use Rattle.fork_tree.specs.Trees.{IsTree};
 ghost use Rattle.plain_model.specs.TypeEvents.{interrupted, line_of, line_typed, posted_at, typed_so};
 ghost use Rattle.event_deeds.specs.Deeds.{deed as deed_of, line_begun, typed_by};
 ghost use Rattle.event_deeds.specs.declared.deed.Deed.TheVariants.{Typed as ATyped};
-ghost use Rattle.monitor_core.specs.Deeds.{Does, FitsAnswer, IsEchoed, PartReaches, line_end, once};
+ghost use Rattle.monitor_core.specs.Deeds.{Does, FitsAnswer, IsEchoed, line_end, once};
 ghost use Rattle.step_shown.specs.Echoes.{echo_items, FitsEcho};
 ghost use Rattle.monitor_core.specs.Effects.{Has, HasJobAt, job_in, stopped_tree};
 ghost use Rattle.monitor_calls.specs.Jobs.{job_at};
-ghost use Rattle.step_shown.specs.Reaching.{EchoReaches};
+ghost use Rattle.monitor_core.specs.Reaching.{EchoReaches, PartReaches};
 ghost use Rattle.step_shown.specs.declared.echo.Echo.{Echo as AnEcho};
 
 use crate::system::System;

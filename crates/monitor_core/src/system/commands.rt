@@ -1,13 +1,13 @@
 // The commands of a terminal's job to the monitor.
 ghost use Rattle.std.specs.Prelude.{◌≡◌, IfSome, None};
 ghost use Rattle.machine_names.specs.Bounds.{IsTerminal};
-ghost use Rattle.plain_model.specs.Forks.{OthersStay};
 ghost use Rattle.plain_model.specs.Commands.{commanded, delete_file as delete_file_of, go_on as go_on_of, start_again as start_again_of};
 ghost use Rattle.event_deeds.specs.Deeds.{IsNext};
 ghost use Rattle.file_tables.specs.Tables.{files_of};
 ghost use Rattle.step_shown.specs.Echoes.{told_items};
 ghost use Rattle.monitor_core.specs.Deeds.{IsBehind, begins_with};
 ghost use Rattle.monitor_core.specs.Effects.{Has, HasJobAt, job_in};
+ghost use Rattle.monitor_core.specs.Reaching.{ChangesJob};
 
 use crate::system::System;
 use console_access::start;
@@ -42,7 +42,7 @@ impl<P: Pages> System<P> {
         requires terminal { IsTerminal t }
         requires job { HasJobAt self.old t job }
         ensures has { Has self.old self.new (λ s. start_again_of s t (job_in self.old t job)) (told_items t result) }
-        ensures others { OthersStay t self.old.tree.forks self.new.tree.forks }
+        ensures others { ChangesJob t self.old.tree.forks self.new.tree.forks }
     {
         let Some(word) = job.start else {
             return Told::Refused(Complaint::NoProgram);
@@ -59,7 +59,7 @@ impl<P: Pages> System<P> {
         requires terminal { IsTerminal t }
         requires job { HasJobAt self.old t job }
         ensures has { Has self.old self.new (λ s. go_on_of s t (job_in self.old t job)) (told_items t result) }
-        ensures others { OthersStay t self.old.tree.forks self.new.tree.forks }
+        ensures others { ChangesJob t self.old.tree.forks self.new.tree.forks }
     {
         self.tree.are_trees();
         if !go_on(job.top, &mut self.tree) {
@@ -73,7 +73,7 @@ impl<P: Pages> System<P> {
     // DELETE: a file is removed.
     fn delete_file(&mut self, t: Tty, name: &FileName) -> Told
         ensures has { Has self.old self.new (λ s. delete_file_of s t name.now) (told_items t result) }
-        ensures others { OthersStay t self.old.tree.forks self.new.tree.forks }
+        ensures others { ChangesJob t self.old.tree.forks self.new.tree.forks }
     {
         let Some(file) = self.files.find(name) else {
             return Told::Refused(Complaint::NoFile);
@@ -90,7 +90,7 @@ impl<P: Pages> System<P> {
         requires job { HasJobAt self.old t job }
         requires whole { begins_with (files_of self.old.files) t command.now ≡ None }
         ensures has { Has self.old self.new (λ s. commanded s t (job_in self.old t job) command.now) (told_items t result) }
-        ensures others { OthersStay t self.old.tree.forks self.new.tree.forks }
+        ensures others { ChangesJob t self.old.tree.forks self.new.tree.forks }
     {
         match command {
             Command::Blank => Told::Prompt,

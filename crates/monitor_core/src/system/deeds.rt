@@ -7,7 +7,8 @@ ghost use Rattle.event_deeds.specs.Leaves.{last_below as last_below_of};
 ghost use Rattle.event_deeds.specs.declared.deed.Deed.TheVariants.{Begin as ABegin, End as AnEnd, Kill as AKill};
 ghost use Rattle.event_deeds.specs.declared.deed.Purpose.{Purpose as APurpose};
 ghost use Rattle.job_commands.specs.Needing.{NeedsLast, NeedsMap};
-ghost use Rattle.monitor_core.specs.Deeds.{Does, FitsAnswer, NeedsFirstPage, PartNeeds, PartPrints, PartReaches, Prints};
+ghost use Rattle.monitor_core.specs.Deeds.{Does, FitsAnswer, NeedsFirstPage, PartNeeds, PartPrints, Prints};
+ghost use Rattle.monitor_core.specs.Reaching.{PartReaches};
 ghost use Rattle.monitor_core.specs.Effects.{HasJobAt, job_in};
 ghost use Rattle.monitor_core.specs.Systems.{Waits, event_frames};
 
@@ -84,6 +85,7 @@ impl<P: Pages> System<P> {
     {
         match kill_next(job.top, &mut self.tree, &mut self.pages) {
             Ok(some) => {
+                self.tree.are_trees();
                 let next = behind_kill(t, purpose, some);
                 Ok(printed(t, Told::Nothing, Some(next)))
             }

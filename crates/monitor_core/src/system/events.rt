@@ -3,7 +3,7 @@ ghost use Rattle.std.specs.Prelude.{◌≡◌, ◌^◌, IfErr, IfOk, IsOk, true}
 ghost use Rattle.script_texts.specs.Limits.{FitsStep};
 ghost use Rattle.script_texts.specs.declared.event.Event.{Event as AnEvent};
 ghost use Rattle.script_texts.specs.declared.event.Step.{Step as AStep};
-ghost use Rattle.step_shown.specs.Reaching.{EventReaches};
+ghost use Rattle.monitor_core.specs.Reaching.{EventReaches};
 ghost use Rattle.step_shown.specs.Replies.{reply_of};
 ghost use Rattle.monitor_core.specs.Effects.{IsAtOnce};
 ghost use Rattle.monitor_core.specs.Needing.{CanShow, EventNeeds};

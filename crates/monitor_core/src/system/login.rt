@@ -1,7 +1,6 @@
 // LOGIN: a job is made.
 ghost use Rattle.std.specs.Prelude.{◌≡◌, ◌<◌, IfErr, IfOk, IsOk, None, Ok, true};
 ghost use Rattle.machine_names.specs.Bounds.{IsTerminal};
-ghost use Rattle.plain_model.specs.Forks.{OthersStay};
 ghost use Rattle.script_texts.specs.declared.event.Event.{Event as AnEvent};
 ghost use Rattle.script_texts.specs.declared.event.Step.{Step as AStep};
 ghost use Rattle.fork_tree.specs.Making.{room_for};
@@ -9,6 +8,7 @@ ghost use Rattle.monitor_calls.specs.Jobs.{job_at};
 ghost use Rattle.step_shown.specs.Replies.{reply_of};
 ghost use Rattle.monitor_core.specs.Needing.{CanShow, EventNeeds};
 ghost use Rattle.monitor_core.specs.Systems.{Did, Waits, event_frames};
+ghost use Rattle.monitor_core.specs.Reaching.{BeginsJob};
 
 use crate::system::System;
 use fork_tree::NoFork;
@@ -29,7 +29,7 @@ impl<P: Pages> System<P> {
         requires frame { 0 < (P.means.scene self.old.pages).free_frames }
         ensures did { Did self.old self.new (AStep.Outer (AnEvent.Login t user)) result }
         ensures shown { CanShow self.new result }
-        ensures others { OthersStay t self.old.tree.forks self.new.tree.forks }
+        ensures others { BeginsJob t self.old.tree.forks self.new.tree.forks }
     {
         self.tree.are_trees();
         match self.tree.make(t, None) {
@@ -54,7 +54,7 @@ impl<P: Pages> System<P> {
         ensures waits { IfErr result (Waits event_frames self.old self.new) }
         ensures reason { IfErr result (EventNeeds self.new (AnEvent.Login t user)) }
         ensures core { P.means.flat ≡ true → IsOk result }
-        ensures others { OthersStay t self.old.tree.forks self.new.tree.forks }
+        ensures others { BeginsJob t self.old.tree.forks self.new.tree.forks }
     {
         self.tree.are_trees();
         match self.pages.room(1) {
@@ -73,7 +73,7 @@ impl<P: Pages> System<P> {
         ensures waits { IfErr result (Waits event_frames self.old self.new) }
         ensures reason { IfErr result (EventNeeds self.new (AnEvent.Login t user)) }
         ensures core { P.means.flat ≡ true → IsOk result }
-        ensures others { OthersStay t self.old.tree.forks self.new.tree.forks }
+        ensures others { BeginsJob t self.old.tree.forks self.new.tree.forks }
     {
         if self.jobs[t.0 as usize].is_some() {
             return Ok(Err(Refusal::Busy(t)));

@@ -3,7 +3,7 @@ ghost use Rattle.std.specs.Prelude.{◌≡◌, ◌<◌, ◌≤◌, ◌^◌, IfEr
 ghost use Rattle.plain_model.specs.Forks.{OthersStay, fork_in};
 ghost use Rattle.script_texts.specs.declared.event.Step.{Step as AStep};
 ghost use Rattle.monitor_calls.specs.Limits.{unit_frames};
-ghost use Rattle.step_shown.specs.Reaching.{EventReaches, Reaches};
+ghost use Rattle.step_shown.specs.Reaching.{Reaches};
 ghost use Rattle.step_shown.specs.Replies.{line_before};
 ghost use Rattle.step_shown.specs.Runners.{IsRunner, told_at};
 ghost use Rattle.turn_forms.specs.Turns.{KeepSlots};

@@ -1,11 +1,10 @@
 // A character that is typed, with all its parts, over pages in memory alone, where none needs anything first.
 ghost use Rattle.std.specs.Prelude.{◌≡◌, ◌<◌, true};
 ghost use Rattle.machine_names.specs.Bounds.{IsTerminal};
-ghost use Rattle.plain_model.specs.Forks.{OthersStay};
 ghost use Rattle.plain_model.specs.TypeEvents.{typed_at};
 ghost use Rattle.event_deeds.specs.Deeds.{IsNext, deeds};
 ghost use Rattle.step_shown.specs.Echoes.{FitsEcho, echo_items, told_items};
-ghost use Rattle.step_shown.specs.Reaching.{EchoReaches};
+ghost use Rattle.monitor_core.specs.Reaching.{ChangesJob, EchoReaches};
 ghost use Rattle.monitor_core.specs.Deeds.{IsBehind};
 ghost use Rattle.monitor_core.specs.Effects.{Has};
 
@@ -25,7 +24,7 @@ impl<P: Pages> System<P> {
         requires part { IsNext deed.now }
         requires behind { IsBehind t deed.now }
         ensures has { Has self.old self.new (λ s. deeds left s deed.now) (told_items t result) }
-        ensures others { OthersStay t self.old.tree.forks self.new.tree.forks }
+        ensures others { ChangesJob t self.old.tree.forks self.new.tree.forks }
     {
         if left == 0 {
             return Told::Nothing;

@@ -5,7 +5,8 @@ use Rattle.step_shown.specs.Echoes.{told_items}
 use Rattle.step_shown.specs.declared.echo.Told.{Told as Printed}
 use Rattle.monitor_core.specs.Deeds.{IsPrinted}
 use Rattle.monitor_core.specs.Effects.{Has}
-use Rattle.monitor_core.proofs.CharacterParts.{has_behind, has_no_part, has_told, prints_so}
+use Rattle.monitor_core.proofs.CharacterParts.{has_behind, has_no_part, has_told, printed_changes, prints_so}
+use Rattle.monitor_core.proofs.JobOthers.{job_on}
 use Rattle.monitor_core.proofs.system.System.+end_command.Goals as goal
 
 pub returns-then-left-eq0-clause-has : goal.returns-then-left-eq0-clause-has
@@ -22,3 +23,11 @@ returns-in-Told-clause-has g n c =
     let prints = prints_so c.args.t c.args.deed.now c.in-Ok.answer c.requires.behind c.in-Ok.ensures.printed in
     subst (λ (x : Printed). Has m c.part.new.self (λ s. deeds c.args.left s c.args.deed.now) (told_items c.args.t x)) (sym c.in-Told.told-is)
     (has_told m c.part.new.self c.args.t c.in-Told.field-0 c.args.left c.args.deed.now c.in-Told.told c.in-Ok.answer c.if-left-eq0.false c.in-None.is c.in-Told.is (subst (IsPrinted c.args.t) c.in-Told.is prints.shown) c.in-Ok.ensures.does)
+
+pub returns-in-Some-clause-others : goal.returns-in-Some-clause-others
+returns-in-Some-clause-others g n c =
+    let t = c.args.t in
+    let old = c.args.self.now.tree.forks in
+    let mid = c.part.new.self.tree.forks in
+    let prints = prints_so t c.args.deed.now c.in-Ok.answer c.requires.behind c.in-Ok.ensures.printed in
+    job_on t old mid c.end_command.new.self.tree.forks (printed_changes t c.in-Ok.answer.showing old mid prints.shown c.in-Ok.ensures.others) c.end_command.ensures.others

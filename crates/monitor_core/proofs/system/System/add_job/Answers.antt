@@ -11,7 +11,7 @@ use Rattle.monitor_calls.specs.Sound.{AreSound}
 use Rattle.monitor_core.proofs.EventDid.{did_login}
 use Rattle.file_tables.specs.Tables.{open_of}
 use Rattle.monitor_core.proofs.Logins.{unheld_begun, new_tree, none_first, none_held, room_held, sound_begun, unused}
-use Rattle.monitor_core.proofs.JobOthers.{made_stays}
+use Rattle.monitor_core.proofs.JobOthers.{made_begins}
 use Rattle.monitor_core.proofs.system.System.add_job.Goals as goal
 
 pub make-requires-clause-superior : goal.make-requires-clause-superior
@@ -61,4 +61,4 @@ returns-clause-did g c =
     c.add_fork.ensures.serials c.add_fork.ensures.most c.add_fork.ensures.loses
 
 pub returns-clause-others : goal.returns-clause-others
-returns-clause-others g c = made_stays c.args.self.now.tree c.make.new.self c.args.t None c.in-Ok.ensures.2
+returns-clause-others g c = made_begins c.args.self.now.tree c.make.new.self c.are_trees.ensures c.args.t None c.in-Ok.ensures.2

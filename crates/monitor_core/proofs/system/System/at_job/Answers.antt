@@ -77,7 +77,7 @@ returns-in-Forks-clause-did g c =
     did_forks c.args.self.now _ refl refl refl (put_back c.args.self.now.jobs.items c.args.t.0 c.index_mut.result.now (Some c.in-Some.job) c.index_mut.ensures.value c.in-Some.is) refl refl c.args.t c.args.e c.in-Some.job (job_read c.args.self.now.jobs.items c.args.t.0 _ c.in-Some.job c.args.self.now.sound.job_room c.requires.terminal c.index_mut.ensures.value c.in-Some.is) c.in-Forks.is c.requires.terminal
 
 pub returns-in-Start-clause-others : goal.returns-in-Start-clause-others
-returns-in-Start-clause-others g c = top_changed c.args.self.now c.args.t c.in-Some.job (job_read c.args.self.now.jobs.items c.args.t.0 _ c.in-Some.job c.args.self.now.sound.job_room c.requires.terminal c.index_mut.ensures.value c.in-Some.is) c.are_trees.ensures (restarted c.in-Start.address) c.start.new.tree c.start.ensures
+returns-in-Start-clause-others g c = top_changed c.args.self.now c.args.t c.in-Some.job (job_read c.args.self.now.jobs.items c.args.t.0 _ c.in-Some.job c.args.self.now.sound.job_room c.requires.terminal c.index_mut.ensures.value c.in-Some.is) c.are_trees.ensures (restarted c.in-Start.address) (λ k. refl) c.start.new.tree c.start.ensures
 
 pub returns-in-Ok-Ok-clause-did : goal.returns-in-Ok-Ok-clause-did
 returns-in-Ok-Ok-clause-did g c =
@@ -126,12 +126,12 @@ returns-in-Err-examined-clause-reason g c =
 
 pub returns-in-Ok-Ok-clause-others : goal.returns-in-Ok-Ok-clause-others
 returns-in-Ok-Ok-clause-others g c =
-    top_poked c.args.self.now c.args.t c.in-Some.job (job_read c.args.self.now.jobs.items c.args.t.0 _ c.in-Some.job c.args.self.now.sound.job_room c.requires.terminal c.index_mut.ensures.value c.in-Some.is) c.are_trees.ensures c.in-Poke.address (with_accumulator c.in-Poke.address c.in-Poke.word) c.poke.new.tree (λ low. (c.poke.ensures.low low).1) (λ high. (c.poke.ensures.high high).0)
+    top_poked c.args.self.now c.args.t c.in-Some.job (job_read c.args.self.now.jobs.items c.args.t.0 _ c.in-Some.job c.args.self.now.sound.job_room c.requires.terminal c.index_mut.ensures.value c.in-Some.is) c.are_trees.ensures c.in-Poke.address (with_accumulator c.in-Poke.address c.in-Poke.word) (λ k. refl) c.poke.new.tree (λ low. (c.poke.ensures.low low).1) (λ high. (c.poke.ensures.high high).0)
 
 pub returns-in-Ok-Err-clause-others : goal.returns-in-Ok-Err-clause-others
 returns-in-Ok-Err-clause-others g c =
-    top_poked c.args.self.now c.args.t c.in-Some.job (job_read c.args.self.now.jobs.items c.args.t.0 _ c.in-Some.job c.args.self.now.sound.job_room c.requires.terminal c.index_mut.ensures.value c.in-Some.is) c.are_trees.ensures c.in-Poke.address (with_accumulator c.in-Poke.address c.in-Poke.word) c.poke.new.tree (λ low. (c.poke.ensures.low low).1) (λ high. (c.poke.ensures.high high).0)
+    top_poked c.args.self.now c.args.t c.in-Some.job (job_read c.args.self.now.jobs.items c.args.t.0 _ c.in-Some.job c.args.self.now.sound.job_room c.requires.terminal c.index_mut.ensures.value c.in-Some.is) c.are_trees.ensures c.in-Poke.address (with_accumulator c.in-Poke.address c.in-Poke.word) (λ k. refl) c.poke.new.tree (λ low. (c.poke.ensures.low low).1) (λ high. (c.poke.ensures.high high).0)
 
 pub returns-in-Err-clause-others : goal.returns-in-Err-clause-others
 returns-in-Err-clause-others g c =
-    top_poked c.args.self.now c.args.t c.in-Some.job (job_read c.args.self.now.jobs.items c.args.t.0 _ c.in-Some.job c.args.self.now.sound.job_room c.requires.terminal c.index_mut.ensures.value c.in-Some.is) c.are_trees.ensures c.in-Poke.address (with_accumulator c.in-Poke.address c.in-Poke.word) c.poke.new.tree (λ low. (c.poke.ensures.low low).1) (λ high. (c.poke.ensures.high high).0)
+    top_poked c.args.self.now c.args.t c.in-Some.job (job_read c.args.self.now.jobs.items c.args.t.0 _ c.in-Some.job c.args.self.now.sound.job_room c.requires.terminal c.index_mut.ensures.value c.in-Some.is) c.are_trees.ensures c.in-Poke.address (with_accumulator c.in-Poke.address c.in-Poke.word) (λ k. refl) c.poke.new.tree (λ low. (c.poke.ensures.low low).1) (λ high. (c.poke.ensures.high high).0)

@@ -4,11 +4,12 @@ use Rattle.event_deeds.specs.declared.answer.Answer.{Answer}
 use Rattle.event_deeds.specs.declared.deed.Purpose.TheVariants.{Logout}
 use Rattle.file_tables.specs.Tables.{open_of}
 use Rattle.monitor_calls.specs.Jobs.{AreUnheld}
-use Rattle.monitor_core.specs.Deeds.{Does, PartReaches}
+use Rattle.monitor_core.specs.Deeds.{Does}
+use Rattle.monitor_core.specs.Reaching.{PartReaches}
 use Rattle.monitor_core.specs.Effects.{job_in}
 use Rattle.monitor_core.proofs.EndDid.{does_logout}
 use Rattle.monitor_core.proofs.HasDone.{open_room, sound_gone, unheld_gone}
-use Rattle.monitor_core.proofs.JobOthers.{top_others}
+use Rattle.monitor_core.proofs.JobOthers.{top_left}
 use Rattle.monitor_core.proofs.system.System.end_job.Goals as goal
 
 pub invariant_of-self : goal.invariant_of-self
@@ -34,4 +35,4 @@ pub returns-in-Ok-clause-others : goal.returns-in-Ok-clause-others
 returns-in-Ok-clause-others g c =
     let m = c.args.self.now in
     let new = c.kill_top.new.tree.forks in
-    subst (λ (a : Answer). PartReaches a.showing m.tree.forks new) (sym c.printed.ensures) (top_others m c.args.t c.args.job c.requires.job new c.in-Ok.ensures.leaves.others)
+    subst (λ (a : Answer). PartReaches a.showing m.tree.forks new) (sym c.printed.ensures) (top_left m c.args.t c.args.job c.requires.job new c.are_trees.ensures.slotted c.in-Ok.ensures.leaves.kept c.in-Ok.ensures.leaves.others)

@@ -1,13 +1,14 @@
 use Rattle.std.proofs.Common.{◌≡◌, None, Some, ◌∙◌, sym, ap, subst}
+use Rattle.event_deeds.specs.declared.answer.Answer.{Answer}
 use Rattle.event_deeds.specs.Deeds.{line_begun}
 use Rattle.file_tables.specs.Tables.{files_of}
 use Rattle.plain_model.specs.Commands.{commanded}
 use Rattle.step_shown.specs.Echoes.{told_items}
 use Rattle.monitor_core.specs.Deeds.{Does, begins_with}
 use Rattle.monitor_core.specs.Effects.{Has, job_in}
+use Rattle.monitor_core.specs.Reaching.{ChangesJob, PartReaches}
 use Rattle.monitor_calls.specs.Jobs.{job_at}
 use Rattle.monitor_core.proofs.TypeDid.{line_done, line_goes}
-use Rattle.plain_model.specs.Forks.{OthersStay}
 use Rattle.plain_model.specs.Trees.{PlainTree}
 use Rattle.monitor_core.proofs.system.System.end_line.Goals as goal
 
@@ -35,3 +36,9 @@ returns-in-None-clause-does g c =
     subst (Does m last (λ s. line_begun s t (job_in m t j))) (sym c.ended-in-None.ensures)
     (line_done m last t j c.requires.job mid e.has e.left c.command-told.result (ap (begins_with (files_of mid.files) t) (sym e.command) ∙ sym c.in-None.ensures.begins)
     (subst (λ x. Has mid last (λ s. commanded s t (job_in mid t j) x) (told_items t c.command-told.result)) e.command c.command-told.ensures.has))
+
+pub returns-in-None-clause-others : goal.returns-in-None-clause-others
+returns-in-None-clause-others g c =
+    let new = c.command-told.new.self.tree.forks in
+    let changes = subst (λ (x : PlainTree). ChangesJob c.args.t x.forks new) c.take_line-command.ensures.tree c.command-told.ensures.others in
+    subst (λ (a : Answer). PartReaches a.showing c.args.self.now.tree.forks new) (sym c.ended-in-None.ensures) changes

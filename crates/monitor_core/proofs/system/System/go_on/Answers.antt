@@ -12,8 +12,7 @@ use Rattle.monitor_core.proofs.HasDone.{change_keeps, sound_kept}
 use Rattle.monitor_calls.proofs.Sounds.{same_tops_set}
 use Rattle.monitor_core.proofs.Systems.{top_fork_of, unheld_still}
 use Rattle.monitor_core.proofs.TypeDid.{low_job}
-use Rattle.monitor_core.proofs.JobOthers.{top_changed}
-use Rattle.monitor_calls.proofs.ReachDid.{others_same}
+use Rattle.monitor_core.proofs.JobOthers.{job_same, top_changed}
 use Rattle.monitor_core.proofs.system.System.go_on.Goals as goal
 
 pub go_on-requires : goal.go_on-requires
@@ -53,10 +52,10 @@ returns-clause-has g c =
 
 pub returns-then-not-go_on-clause-others : goal.returns-then-not-go_on-clause-others
 returns-then-not-go_on-clause-others g c =
-    others_same c.args.t c.args.self.now.tree.forks _ (ap (λ (x : PlainTree). x.forks) (c.if-not-go_on.ensures.tree))
+    job_same c.args.t c.args.self.now.tree.forks _ (ap (λ (x : PlainTree). x.forks) (c.if-not-go_on.ensures.tree))
 
 pub returns-clause-others : goal.returns-clause-others
 returns-clause-others g c =
     let m = c.args.self.now in
     let j = c.args.job in
-    top_changed m c.args.t j c.requires.job c.are_trees.ensures resumed c.go_on.new.tree (c.go_on.ensures.tree ∙ ap (λ r. cond r (with_changed_of m.tree j.top resumed) m.tree) c.if-not-go_on.false)
+    top_changed m c.args.t j c.requires.job c.are_trees.ensures resumed (λ k. refl) c.go_on.new.tree (c.go_on.ensures.tree ∙ ap (λ r. cond r (with_changed_of m.tree j.top resumed) m.tree) c.if-not-go_on.false)

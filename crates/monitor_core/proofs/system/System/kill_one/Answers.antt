@@ -2,9 +2,10 @@ use Rattle.std.proofs.Common.{refl, sym, ◌∙◌, subst}
 use Rattle.event_deeds.specs.Deeds.{one_killed}
 use Rattle.event_deeds.specs.Leaves.{last_below}
 use Rattle.event_deeds.specs.declared.answer.Answer.{Answer}
-use Rattle.monitor_core.specs.Deeds.{Does, PartReaches}
+use Rattle.monitor_core.specs.Deeds.{Does}
+use Rattle.monitor_core.specs.Reaching.{PartReaches}
 use Rattle.monitor_core.proofs.EndDid.{behind_is, does_kill, sound_after}
-use Rattle.monitor_core.proofs.JobOthers.{top_others}
+use Rattle.monitor_core.proofs.JobOthers.{top_left}
 use Rattle.monitor_core.proofs.system.System.kill_one.Goals as goal
 
 pub invariant_of-self : goal.invariant_of-self
@@ -30,4 +31,4 @@ pub returns-in-Ok-clause-others : goal.returns-in-Ok-clause-others
 returns-in-Ok-clause-others g c =
     let m = c.args.self.now in
     let new = c.kill_next.new.tree.forks in
-    subst (λ (a : Answer). PartReaches a.showing m.tree.forks new) (sym c.printed.ensures) (top_others m c.args.t c.args.job c.requires.job new c.in-Ok.ensures.leaves.others)
+    subst (λ (a : Answer). PartReaches a.showing m.tree.forks new) (sym c.printed.ensures) (top_left m c.args.t c.args.job c.requires.job new c.are_trees.ensures.slotted c.in-Ok.ensures.leaves.kept c.in-Ok.ensures.leaves.others)

@@ -16,7 +16,7 @@ use Rattle.monitor_core.proofs.HasDone.{sound_kept}
 use Rattle.monitor_core.proofs.PostDid.{forced_fits, forced_is, has_posted, kept, stop_by}
 use Rattle.monitor_core.proofs.Systems.{unheld_still}
 use Rattle.monitor_core.proofs.UnitDid.{seen_fits, tops_left}
-use Rattle.monitor_core.proofs.JobOthers.{posts_stay}
+use Rattle.monitor_core.proofs.JobOthers.{posts_change}
 use Rattle.std.proofs.Common.{rules}
 use Rattle.ka10_spots.proofs.Stored.{lost_none}
 use Rattle.monitor_core.proofs.system.System.post_typed.Goals as goal
@@ -81,7 +81,7 @@ returns-clause-fits g c =
     )
 
 pub returns-clause-others : goal.returns-clause-others
-returns-clause-others g c t = posts_stay c.args.self.now.tree c.post_channels-forced.new.self c.are_trees.ensures c.args.name c.channel_word.result c.post_channels-forced.ensures.forks
+returns-clause-others g c t = posts_change c.args.self.now.tree c.post_channels-forced.new.self c.are_trees.ensures c.args.name c.channel_word.result c.post_channels-forced.ensures.forks
 
 pub returns-in_default-clause-has : goal.returns-in_default-clause-has
 returns-in_default-clause-has g c t = record { each = search rules; within = search rules; most = search rules; loses = lost_none g.P.Pages.means c.args.self.now.pages }

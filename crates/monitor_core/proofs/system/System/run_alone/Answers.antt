@@ -9,12 +9,13 @@ use Rattle.plain_model.specs.InterruptCalls.{living_codes}
 use Rattle.monitor_calls.specs.declared.typing.Typing.{Typing}
 use Rattle.monitor_calls.specs.Typings.{new_typing}
 use Rattle.monitor_calls.proofs.Sounds.{same_tops_set, stands}
-use Rattle.monitor_core.specs.Deeds.{Does, PartReaches}
+use Rattle.monitor_core.specs.Deeds.{Does}
+use Rattle.monitor_core.specs.Reaching.{PartReaches}
 use Rattle.monitor_core.specs.Effects.{job_in}
 use Rattle.monitor_core.proofs.EndDid.{does_no_run, does_run, right_half}
 use Rattle.monitor_core.proofs.FileDid.{is_missing}
 use Rattle.monitor_core.proofs.HasDone.{sound_came}
-use Rattle.monitor_core.proofs.JobOthers.{top_others}
+use Rattle.monitor_core.proofs.JobOthers.{top_left}
 use Rattle.monitor_core.proofs.Systems.{top_fork_of, unheld_still}
 use Rattle.monitor_core.proofs.TypeDid.{low_job, low_typed}
 use Rattle.monitor_core.proofs.system.System.run_alone.Goals as goal
@@ -59,4 +60,4 @@ pub returns-in-Ok-clause-others : goal.returns-in-Ok-clause-others
 returns-in-Ok-clause-others g c =
     let m = c.args.self.now in
     let new = c.begin_program.new.tree.forks in
-    subst (λ (a : Answer). PartReaches a.showing m.tree.forks new) (sym c.printed-in-Ok.ensures) (top_others m c.args.t c.args.job c.requires.job new c.in-Ok.ensures.leaves.others)
+    subst (λ (a : Answer). PartReaches a.showing m.tree.forks new) (sym c.printed-in-Ok.ensures) (top_left m c.args.t c.args.job c.requires.job new c.are_trees.ensures.slotted c.in-Ok.ensures.leaves.kept c.in-Ok.ensures.leaves.others)

@@ -40,7 +40,7 @@ returns-clause-has g c =
     (subst (λ a. a < 2 ^ 18) c.right.ensures.value c.right.ensures.below) (c.start.ensures ∙ ap (λ a. with_changed_of m.tree j.top (restarted a)) c.right.ensures.value)
 
 pub returns-clause-others : goal.returns-clause-others
-returns-clause-others g c = top_changed c.args.self.now c.args.t c.args.job c.requires.job c.are_trees.ensures (restarted c.right.result) c.start.new.tree c.start.ensures
+returns-clause-others g c = top_changed c.args.self.now c.args.t c.args.job c.requires.job c.are_trees.ensures (restarted c.right.result) (λ k. refl) c.start.new.tree c.start.ensures
 
 pub returns-in_default-clause-has : goal.returns-in_default-clause-has
 returns-in_default-clause-has g c = record { each = search rules; within = search rules; most = search rules; loses = lost_none g.P.Pages.means c.args.self.now.pages }

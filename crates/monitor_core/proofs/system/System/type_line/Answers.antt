@@ -2,7 +2,8 @@ use Rattle.std.proofs.Common.{◌≡◌, sym, subst}
 use Rattle.event_deeds.specs.Deeds.{typed_by}
 use Rattle.event_deeds.specs.declared.answer.Answer.{Answer}
 use Rattle.plain_model.specs.declared.fork.TerminalMode.TheVariants.{Command}
-use Rattle.monitor_core.specs.Deeds.{Does, FitsAnswer, PartReaches}
+use Rattle.monitor_core.specs.Deeds.{Does, FitsAnswer}
+use Rattle.monitor_core.specs.Reaching.{PartReaches}
 use Rattle.monitor_core.specs.Effects.{job_in}
 use Rattle.monitor_core.proofs.CharacterDid.{does_end, does_other, does_stop}
 use Rattle.monitor_core.proofs.system.System.type_line.Goals as goal

@@ -14,7 +14,7 @@ use Rattle.monitor_core.proofs.JobDid.{put_back}
 use Rattle.monitor_core.proofs.PostDid.{has_posting}
 use Rattle.monitor_calls.proofs.Sounds.{same_tops, stands}
 use Rattle.monitor_core.proofs.TypeDid.{low_typed}
-use Rattle.monitor_core.proofs.JobOthers.{readers_stay, stored_reaches}
+use Rattle.monitor_core.proofs.JobOthers.{readers_change, stored_reaches}
 use Rattle.std.proofs.Common.{arith, rules}
 use Rattle.std.proofs.lemmas.Grind.{common_steps}
 use Rattle.ka10_spots.proofs.Stored.{lost_none}
@@ -65,7 +65,7 @@ pub returns-in-Stored-clause-others : goal.returns-in-Stored-clause-others
 returns-in-Stored-clause-others g c =
     let tree = c.args.self.now.tree in
     stored_reaches c.args.t c.wake-may.result c.read_as.result c.stored.result c.stored.ensures tree.forks c.wake-may.new.tree.forks (λ no. ap (λ (x : PlainTree). x.forks) (c.wake-may.ensures.none no))
-    (readers_stay tree c.wake-may.new.tree c.wake-may.ensures.was c.args.t c.wake-may.ensures.tree)
+    (readers_change tree c.wake-may.new.tree c.wake-may.ensures.was c.args.t c.wake-may.ensures.tree)
 
 pub returns-in-Dropped-clause-has : goal.returns-in-Dropped-clause-has
 returns-in-Dropped-clause-has g c = record { each = grind (arith, common_steps); within = search rules; most = search rules; loses = lost_none g.P.Pages.means c.args.self.now.pages }
