@@ -77,6 +77,16 @@ job_same t old new same = subst (ChangesJob t old) (sym same) (others_itself t o
 pub begins_same : (t : Tty) (old new : ForkMap) → new ≡ old → BeginsJob t old new
 begins_same t old new same = subst (BeginsJob t old) (sym same) (others_itself t old, λ f g h was is. (let both : Some h ≡ Some g = sym is ∙ was in let one : h ≡ g = cc both in ap (λ (k : Fork). k.slot) one))
 
+-- who was in a slot before keeps it
+pub changes_begins : (t : Tty) (old new : ForkMap) → ChangesJob t old new → BeginsJob t old new
+changes_begins t old new changes = (
+  changes.0,
+  λ f g h was is.
+      let both : Some g.slot ≡ Some h.slot = sym (ap (option_map (λ (k : Fork). k.slot)) was) ∙ changes.1 f h is in
+      let one : g.slot ≡ h.slot = cc both in
+      sym one,
+)
+
 -- a job changes twice
 pub job_on : (t : Tty) (a b c : ForkMap) → ChangesJob t a b → ChangesJob t b c → ChangesJob t a c
 job_on t a b c first second = (λ name other. second.0 name other ∙ first.0 name other, slots_on a b c first.1 second.1)

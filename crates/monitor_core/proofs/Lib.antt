@@ -26,7 +26,7 @@ mod CommandPages
 mod CommandDid
 mod Commanded
 mod Sleepers
-mod JobOthers
+pub mod JobOthers
 mod NeedsFirst
 mod KeptSlots
 mod Transfers
