@@ -3,7 +3,7 @@ use Rattle.std.specs.Prelude.{◌≡◌, ◌⊎◌, ℕ, ◌<◌, List, length, 
 use Rattle.std.specs.FinMap as map
 use Rattle.machine_names.specs.declared.names.ForkName.{ForkName}
 use Rattle.machine_names.specs.declared.names.Tty.{Tty}
-use Rattle.plain_model.specs.Forks.{ForkMap, OthersStay}
+use Rattle.plain_model.specs.Forks.{ForkMap}
 use Rattle.plain_model.specs.Trees.{PlainTree}
 use Rattle.script_texts.specs.declared.event.Event.{Event}
 use Rattle.script_texts.specs.declared.event.Event.TheVariants.{Tick}
@@ -19,8 +19,9 @@ use Rattle.step_shown.specs.declared.echo.Echo.{Echo}
 use Rattle.step_shown.specs.declared.runner.Runner.{Runner}
 use Rattle.step_shown.specs.declared.reach.Reach.{Reach}
 use Rattle.step_shown.specs.declared.reach.Reach.TheVariants.{Own, Made, Job}
-use Rattle.step_shown.specs.Reaching.{EchoReaches, EventReaches, Reaches}
+use Rattle.step_shown.specs.Reaching.{Reaches}
 use Rattle.step_shown.specs.Runners.{IsRunner}
+use Rattle.monitor_core.specs.Reaching.{BeginsJob, ChangesJob, EchoReaches, EventReaches}
 
 -- a fork is the head of the ready list
 pub record IsHead (s : Schedule) (f : ForkName) : Type 0 where
@@ -57,9 +58,9 @@ pub record IsFollowed (l : ForkLists) (now : PlainTree) (t : Tty) (shown : Echo)
   pub tied : AreTied old.forks l
   pub reaches : EchoReaches t shown old.forks now.forks
 
--- an event changes forks of the job at this terminal alone
+-- an event changes forks of the job at this terminal alone, or there is one more
 abbrev pub IsOf : Event → Tty → Type 0
-IsOf e t = IsTerminal t × ((clock : ℕ) (old new : PlainTree) → EventReaches e clock old new → OthersStay t old.forks new.forks)
+IsOf e t = IsTerminal t × ((clock : ℕ) (old new : PlainTree) → EventReaches e clock old new → BeginsJob t old.forks new.forks)
 
 -- an event is a tick, or changes no fork
 abbrev pub IsOfNone : Event → Type 0
@@ -67,7 +68,7 @@ IsOfNone e = (e ≡ Tick) ⊎ ((clock : ℕ) (old new : PlainTree) → EventReac
 
 -- a character that shows this at a terminal changes forks of the job at this one alone
 abbrev pub IsAt : Tty → Echo → Tty → Type 0
-IsAt t shown u = IsTerminal u × ((old new : ForkMap) → EchoReaches t shown old new → OthersStay u old new)
+IsAt t shown u = IsTerminal u × ((old new : ForkMap) → EchoReaches t shown old new → ChangesJob u old new)
 
 -- or it changes no fork
 abbrev pub IsNowhere : Tty → Echo → Type 0

@@ -7,4 +7,4 @@ mod giving;
 mod machine;
 
 pub use giving::{give_all, give_echo, give_reply, give_told};
-pub use machine::{Config, Ended, Machine};
+pub use machine::{Config, Ended, Machine, echo_terminal, event_terminal};

@@ -47,3 +47,5 @@ mod event;
 mod following;
 mod turns;
 mod type_event;
+
+pub use following::{echo_terminal, event_terminal};

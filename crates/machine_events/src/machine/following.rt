@@ -42,8 +42,8 @@ pub fn end_row(lists: &mut ForkLists, tree: &Tree, who: Runner, reach: Reach, co
     lists.count_last(who.fork);
 }
 
-// The terminal of whose job an event may change forks. None, where it is an event of no terminal.
-fn terminal_of(e: &Event) -> Option<Tty>
+/// The terminal of whose job an event may change forks. None, where it is an event of no terminal.
+pub fn event_terminal(e: &Event) -> Option<Tty>
     requires { FitsEvent e.now }
     ensures { MatchOption result (IsOfNone e.now) (IsOf e.now) }
 {
@@ -65,7 +65,7 @@ pub fn follow_event(lists: &mut ForkLists, tree: &Tree, e: &Event)
     ensures waits { WaitsLess lists.old.sched.waiting lists.new.sched.waiting }
 {
     tree.are_trees();
-    match terminal_of(e) {
+    match event_terminal(e) {
         Some(t) => lists.follow(tree, t),
         None => {
             if let Event::Tick = e {
@@ -75,8 +75,8 @@ pub fn follow_event(lists: &mut ForkLists, tree: &Tree, e: &Event)
     }
 }
 
-// The terminal of whose job a character may change forks, which was typed at a terminal and shows this. None, where it changes none.
-fn reached_terminal(t: Tty, shown: &Echo) -> Option<Tty>
+/// The terminal of whose job a character may change forks, which was typed at a terminal and shows this. None, where it changes none.
+pub fn echo_terminal(t: Tty, shown: &Echo) -> Option<Tty>
     requires terminal { IsTerminal t }
     requires fits { FitsEcho shown.now }
     ensures { MatchOption result (IsNowhere t shown.now) (IsAt t shown.now) }
@@ -101,7 +101,7 @@ pub fn follow_typed(lists: &mut ForkLists, tree: &Tree, t: Tty, shown: &Echo)
     ensures waits { WaitsLess lists.old.sched.waiting lists.new.sched.waiting }
 {
     tree.are_trees();
-    match reached_terminal(t, shown) {
+    match echo_terminal(t, shown) {
         Some(u) => lists.follow(tree, u),
         None => {}
     }

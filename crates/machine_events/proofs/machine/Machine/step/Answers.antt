@@ -3,7 +3,7 @@ use Rattle.plain_model.specs.Trees.{PlainTree}
 use Rattle.fork_lists.specs.Ties.{AreTied}
 use Rattle.job_sched.specs.Ties.{WaitsLess}
 use Rattle.job_sched.proofs.Waits.{less_none}
-use Rattle.step_shown.specs.Reaching.{EventReaches}
+use Rattle.monitor_core.specs.Reaching.{EventReaches}
 use Rattle.machine_events.proofs.StepDid.{step_acted}
 use Rattle.monitor_core.proofs.Systems.{within_later}
 use Rattle.machine_events.proofs.machine.Machine.step.Goals as goal

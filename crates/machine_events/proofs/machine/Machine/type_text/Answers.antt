@@ -4,7 +4,7 @@ use Rattle.plain_model.specs.TypeEvents.{typed_all}
 use Rattle.fork_lists.specs.Ties.{AreTied}
 use Rattle.job_sched.specs.Ties.{WaitsLess}
 use Rattle.job_sched.proofs.Waits.{less_none}
-use Rattle.step_shown.specs.Reaching.{EchoReaches}
+use Rattle.monitor_core.specs.Reaching.{EchoReaches}
 use Rattle.plain_model.specs.Unit.{Effect}
 use Rattle.script_texts.specs.Taker.{GoesOn}
 use Rattle.script_texts.proofs.Takers.{goes_on_append, goes_on_nil, onward_nil, onward_then}

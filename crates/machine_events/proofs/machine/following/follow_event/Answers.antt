@@ -1,7 +1,7 @@
 use Rattle.std.proofs.Common.{IsSome, sym, subst, inl, inr}
 use Rattle.std.specs.FinMap as map
 use Rattle.script_texts.specs.declared.event.Event.{Event}
-use Rattle.step_shown.specs.Reaching.{EventReaches}
+use Rattle.monitor_core.specs.Reaching.{EventReaches}
 use Rattle.plain_model.specs.Trees.{PlainTree}
 use Rattle.fork_lists.specs.Ties.{AreTied}
 use Rattle.job_sched.proofs.Waits.{less_same}
@@ -11,12 +11,12 @@ use Rattle.machine_events.proofs.machine.following.follow_event.Goals as goal
 pub follow-requires-clause-can : goal.follow-requires-clause-can
 follow-requires-clause-can c =
     let f = c.requires.followed in
-    can_follow f.old.forks f.trees.slotted c.args.lists.now f.tied c.in-Some.t c.args.tree.now.forks c.are_trees.ensures.slotted (c.in-Some.ensures.1 f.clock f.old c.args.tree.now f.reaches)
+    can_follow f.old.forks f.trees.slotted c.args.lists.now f.tied c.in-Some.t c.args.tree.now.forks c.are_trees.ensures.slotted (c.in-Some.ensures.1 f.clock f.old c.args.tree.now f.reaches).0
 
 pub returns-in-Some-clause-tied : goal.returns-in-Some-clause-tied
 returns-in-Some-clause-tied c =
     let f = c.requires.followed in
-    tied_followed f.old.forks f.trees.slotted c.args.lists.now f.tied c.in-Some.t c.args.tree.now.forks c.are_trees.ensures.slotted (c.in-Some.ensures.1 f.clock f.old c.args.tree.now f.reaches) c.follow.new.self c.follow.ensures.follows
+    tied_followed f.old.forks f.trees.slotted c.args.lists.now f.tied c.in-Some.t c.args.tree.now.forks c.are_trees.ensures.slotted (c.in-Some.ensures.1 f.clock f.old c.args.tree.now f.reaches).0 c.follow.new.self c.follow.ensures.follows
 
 pub follow_all-requires : goal.follow_all-requires
 follow_all-requires c =

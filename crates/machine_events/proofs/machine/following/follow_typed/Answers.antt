@@ -8,12 +8,12 @@ use Rattle.machine_events.proofs.machine.following.follow_typed.Goals as goal
 pub follow-requires-clause-can : goal.follow-requires-clause-can
 follow-requires-clause-can c =
     let f = c.requires.followed in
-    can_follow f.old.forks f.trees.slotted c.args.lists.now f.tied c.in-Some.u c.args.tree.now.forks c.are_trees.ensures.slotted (c.in-Some.ensures.1 f.old.forks c.args.tree.now.forks f.reaches)
+    can_follow f.old.forks f.trees.slotted c.args.lists.now f.tied c.in-Some.u c.args.tree.now.forks c.are_trees.ensures.slotted (c.in-Some.ensures.1 f.old.forks c.args.tree.now.forks f.reaches).0
 
 pub returns-in-Some-clause-tied : goal.returns-in-Some-clause-tied
 returns-in-Some-clause-tied c =
     let f = c.requires.followed in
-    tied_followed f.old.forks f.trees.slotted c.args.lists.now f.tied c.in-Some.u c.args.tree.now.forks c.are_trees.ensures.slotted (c.in-Some.ensures.1 f.old.forks c.args.tree.now.forks f.reaches) c.follow.new.self c.follow.ensures.follows
+    tied_followed f.old.forks f.trees.slotted c.args.lists.now f.tied c.in-Some.u c.args.tree.now.forks c.are_trees.ensures.slotted (c.in-Some.ensures.1 f.old.forks c.args.tree.now.forks f.reaches).0 c.follow.new.self c.follow.ensures.follows
 
 pub returns-in-None-clause-tied : goal.returns-in-None-clause-tied
 returns-in-None-clause-tied c =
