@@ -16,7 +16,7 @@ use Rattle.plain_model.proofs.ChangedForks.{changed_from, get_changed}
 use Rattle.fork_tree.specs.Trees.{IsIn, IsTree}
 use Rattle.fork_tree.proofs.Slots.{both_first, in_found, in_none, in_tells}
 use Rattle.job_sched.specs.Schedules.{Schedule}
-use Rattle.turn_forms.specs.Turns.{moved}
+use Rattle.turn_forms.specs.Turns.{KeepSlots, moved}
 use Rattle.turn_forms.proofs.Nothing.{all_fail}
 
 never : (b : Bool) → (b && not b) ≡ false
@@ -59,6 +59,14 @@ module _ (clock : ℕ) where
     came : (f : ForkName) (g : Fork) → map_of.get now.forks f ≡ Some g → (k : Fork) × (map_of.get old.forks f ≡ Some k) × (awoken clock k ≡ g)
     unfolding sleepers_awoken
     came f g is = changed_from (awoken clock) old.forks f g (sym (ap (λ (x : PlainTree). map_of.get x.forks f) left) ∙ is)
+
+    -- each is in the slot in which it was
+    pub slots_on : KeepSlots old.forks now.forks
+    slots_on f g h was is =
+        let from = came f h is in
+        let both : Some from.0 ≡ Some g = sym from.1 ∙ was in
+        let same : from.0 ≡ g = cc both in
+        sym (ap (λ (k : Fork). k.slot) from.2) ∙ ap (λ (k : Fork). k.slot) same
 
     slot_awoken : (t : Tty) (slot : ℕ) → fork_in now.forks t slot ≡ option_map (awoken clock) (fork_in old.forks t slot)
     slot_awoken t slot = by (fork_in old.forks t slot) refl

@@ -10,7 +10,7 @@ ghost use Rattle.page_contracts.specs.declared.answers.Need.{Need as ANeed};
 ghost use Rattle.page_homes.specs.declared.homes.Home.{Home as AHome};
 ghost use Rattle.page_waits.specs.Seats.{has};
 ghost use Rattle.page_waits.specs.Systems.{DidDeed, Needs};
-ghost use Rattle.paged_system.specs.Followed.{MovesKept};
+ghost use Rattle.paged_system.specs.Followed.{HaveMoved};
 ghost use Rattle.paged_system.specs.Paging.{paged};
 
 use crate::following::{follow_event, follow_part};
@@ -28,7 +28,7 @@ impl<P: Pages> Paged<P> {
         requires tied { AreTied self.old.system.tree.forks lists.old }
         requires within { IsWithin self.old.system (2 ^ 52) }
         ensures did { IfOk result (DidDeed paged (ADeed.Outer e.now) self.old self.new) }
-        ensures moved { IfOk result (λ answer. MovesKept self.old.system.tree.forks self.new.system.tree.forks lists.old lists.new) }
+        ensures moved { IfOk result (λ answer. HaveMoved self.old.system.tree.forks self.new.system.tree.forks lists.old lists.new) }
         ensures tied { IfOk result (λ answer. AreTied self.new.system.tree.forks lists.new) }
         ensures waits { IfOk result (λ answer. WaitsLess lists.old.sched.waiting lists.new.sched.waiting) }
         ensures set { size lists.new.sched ≡ size lists.old.sched }
@@ -57,7 +57,7 @@ impl<P: Pages> Paged<P> {
         requires part { IsNext deed.now }
         requires tied { AreTied self.old.system.tree.forks lists.old }
         ensures did { IfOk result (DidDeed paged deed.now self.old self.new) }
-        ensures moved { IfOk result (λ answer. MovesKept self.old.system.tree.forks self.new.system.tree.forks lists.old lists.new) }
+        ensures moved { IfOk result (λ answer. HaveMoved self.old.system.tree.forks self.new.system.tree.forks lists.old lists.new) }
         ensures tied { IfOk result (λ answer. AreTied self.new.system.tree.forks lists.new) }
         ensures waits { IfOk result (λ answer. WaitsLess lists.old.sched.waiting lists.new.sched.waiting) }
         ensures set { size lists.new.sched ≡ size lists.old.sched }
@@ -83,7 +83,7 @@ impl<P: Pages> Paged<P> {
         requires tied { AreTied self.old.system.tree.forks lists.old }
         requires within { IsWithin self.old.system (2 ^ 52) }
         ensures did { IfOk result (DidDeed paged deed.now self.old self.new) }
-        ensures moved { IfOk result (λ answer. MovesKept self.old.system.tree.forks self.new.system.tree.forks lists.old lists.new) }
+        ensures moved { IfOk result (λ answer. HaveMoved self.old.system.tree.forks self.new.system.tree.forks lists.old lists.new) }
         ensures tied { IfOk result (λ answer. AreTied self.new.system.tree.forks lists.new) }
         ensures waits { IfOk result (λ answer. WaitsLess lists.old.sched.waiting lists.new.sched.waiting) }
         ensures set { size lists.new.sched ≡ size lists.old.sched }

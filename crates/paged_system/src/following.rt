@@ -4,14 +4,13 @@ ghost use Rattle.fork_lists.specs.Ties.{AreTied};
 ghost use Rattle.fork_tree.specs.Trees.{IsTree};
 ghost use Rattle.job_sched.specs.Schedules.{size};
 ghost use Rattle.job_sched.specs.Ties.{WaitsLess};
-ghost use Rattle.machine_events.specs.Following.{IsAt, IsNowhere, IsOf, IsOfNone, RowEnded};
+ghost use Rattle.machine_events.specs.Following.{RowEnded};
 ghost use Rattle.machine_names.specs.Bounds.{IsTerminal};
 ghost use Rattle.monitor_core.specs.Deeds.{FitsPart};
 ghost use Rattle.plain_model.specs.Moves.{moves};
 ghost use Rattle.plain_model.specs.Trees.{PlainTree};
 ghost use Rattle.script_texts.specs.Limits.{FitsEvent};
 ghost use Rattle.script_texts.specs.declared.event.Event.TheVariants.{Tick};
-ghost use Rattle.step_shown.specs.Echoes.{FitsEcho};
 ghost use Rattle.step_shown.specs.Reaching.{Reaches};
 ghost use Rattle.step_shown.specs.Runners.{IsRunner};
 ghost use Rattle.turn_forms.specs.Turns.{KeepSlots, moved};
@@ -20,9 +19,10 @@ ghost use Rattle.paged_system.specs.Followed.{HadForks, IsPartAt, IsPartNowhere,
 use event_deeds::Showing;
 use fork_lists::ForkLists;
 use fork_tree::Tree;
+use machine_events::{echo_terminal, event_terminal};
 use machine_names::Tty;
 use script_texts::Event;
-use step_shown::{Echo, Reach, Runner};
+use step_shown::{Reach, Runner};
 use turn_forms::following_is_moving;
 
 /// The lists follow units of a fork in a row, which have reached so far among the forks: from any forks before, of which each that lives on is in its
@@ -44,7 +44,7 @@ pub fn follow_reach(lists: &mut ForkLists, tree: &Tree, who: Runner, reach: Reac
     }
 }
 
-// The lists follow a job, of which alone forks have changed: they move as the forks have.
+// The lists follow a job, of which alone forks have changed, each in its slot: they move as the forks have.
 fn follow_job(lists: &mut ForkLists, tree: &Tree, t: Tty)
     requires terminal { IsTerminal t }
     requires had { HadForks (job_became t tree.now) lists.old }
@@ -71,22 +71,7 @@ fn follow_awoken(lists: &mut ForkLists, tree: &Tree)
     lists.follow_all(tree);
 }
 
-// The terminal of whose job an event may change forks. None, where it is an event of no terminal.
-fn event_terminal(e: &Event) -> Option<Tty>
-    requires { FitsEvent e.now }
-    ensures { MatchOption result (IsOfNone e.now) (IsOf e.now) }
-{
-    match e {
-        Event::Login(t, _) => Some(*t),
-        Event::Poke(t, _, _) => Some(*t),
-        Event::Start(t, _) => Some(*t),
-        Event::Examine(t, _, _) => Some(*t),
-        Event::Forks(t) => Some(*t),
-        _ => None,
-    }
-}
-
-/// The lists follow an event that is one deed: from any forks before, of which each that lives on is in its slot, they move as the forks have.
+/// The lists follow an event that is one deed: from any forks before, they move as the forks have.
 pub fn follow_event(lists: &mut ForkLists, tree: &Tree, e: &Event)
     requires fits { FitsEvent e.now }
     requires had { HadForks (event_became e.now tree.now) lists.old }
@@ -105,23 +90,6 @@ pub fn follow_event(lists: &mut ForkLists, tree: &Tree, e: &Event)
     }
 }
 
-// The terminal of whose job a character may change forks, which was typed at a terminal and shows this. None, where it changes none.
-fn echo_terminal(t: Tty, shown: &Echo) -> Option<Tty>
-    requires terminal { IsTerminal t }
-    requires fits { FitsEcho shown.now }
-    ensures { MatchOption result (IsNowhere t shown.now) (IsAt t shown.now) }
-{
-    match shown {
-        Echo::Shows(_) => None,
-        Echo::Bell => None,
-        Echo::Posts(u, _) => Some(*u),
-        Echo::Nothing => Some(t),
-        Echo::Wakes(_) => Some(t),
-        Echo::Stops => Some(t),
-        Echo::Ends(_) => Some(t),
-    }
-}
-
 // The terminal of whose job a part of a character may change forks that shows this. None, where it changes none.
 fn part_terminal(shown: &Showing) -> Option<Tty>
     requires { FitsPart shown.now }
@@ -135,7 +103,7 @@ fn part_terminal(shown: &Showing) -> Option<Tty>
     }
 }
 
-/// The lists follow a part of a character that shows this: from any forks before, of which each that lives on is in its slot, they move as the forks have.
+/// The lists follow a part of a character that shows this: from any forks before, they move as the forks have.
 pub fn follow_part(lists: &mut ForkLists, tree: &Tree, shown: &Showing)
     requires fits { FitsPart shown.now }
     requires had { HadForks (part_became shown.now tree.now) lists.old }

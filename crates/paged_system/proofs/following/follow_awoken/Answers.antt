@@ -2,7 +2,7 @@ use Rattle.std.proofs.Common.{IsSome, ◌∙◌, sym, subst}
 use Rattle.std.specs.FinMap as map
 use Rattle.plain_model.specs.Trees.{PlainTree}
 use Rattle.machine_events.proofs.ListsTied.{awoken_live, can_follow_all, tied_all}
-use Rattle.paged_system.proofs.Awoken.{runs_on, waits_on}
+use Rattle.paged_system.proofs.Awoken.{runs_on, slots_on, waits_on}
 use Rattle.paged_system.proofs.following.follow_awoken.Goals as goal
 
 pub follow_all-requires : goal.follow_all-requires
@@ -14,9 +14,9 @@ follow_all-requires c =
     }
 
 pub returns-clause-moved : goal.returns-clause-moved
-returns-clause-moved c old trees tied awoke slots =
+returns-clause-moved c old trees tied awoke =
     let now = c.args.tree.now in
-    c.follow_all.ensures.schedule ∙ c.following_is_moving.ensures.all old.forks now.forks c.args.lists.now trees.slotted c.are_trees.ensures.slotted tied slots
+    c.follow_all.ensures.schedule ∙ c.following_is_moving.ensures.all old.forks now.forks c.args.lists.now trees.slotted c.are_trees.ensures.slotted tied (slots_on awoke.0 old now trees c.are_trees.ensures awoke.1)
     (runs_on awoke.0 old now trees c.are_trees.ensures awoke.1) (waits_on awoke.0 old now trees c.are_trees.ensures awoke.1)
 
 pub returns-clause-tied : goal.returns-clause-tied

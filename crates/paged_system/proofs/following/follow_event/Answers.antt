@@ -11,10 +11,10 @@ follow_job-requires-clause-had c =
     record { old = h.old; trees = h.trees; tied = h.tied; changed = c.in-Some.ensures.1 h.changed.0 h.old c.args.tree.now h.changed.1 }
 
 pub returns-in-Some-clause-moved : goal.returns-in-Some-clause-moved
-returns-in-Some-clause-moved c old trees tied became slots = c.follow_job.ensures.moved old trees tied (c.in-Some.ensures.1 became.0 old c.args.tree.now became.1) slots
+returns-in-Some-clause-moved c old trees tied became = c.follow_job.ensures.moved old trees tied (c.in-Some.ensures.1 became.0 old c.args.tree.now became.1)
 
 pub returns-in_default-clause-moved : goal.returns-in_default-clause-moved
-returns-in_default-clause-moved c old trees tied became slots = elim (c.in-None.ensures) [
+returns-in_default-clause-moved c old trees tied became = elim (c.in-None.ensures) [
   | inl tick ↦ absurd (c.in_default.not-Tick tick)
   | inr stays ↦ unmoved old.forks c.args.tree.now.forks c.args.lists.now.sched (ap (λ (x : PlainTree). x.forks) (stays became.0 old c.args.tree.now became.1))
 ]

@@ -4,10 +4,10 @@ use Rattle.event_deeds.specs.Deeds.{deed_of}
 use Rattle.page_contracts.specs.declared.answers.Need.TheVariants.{Page}
 use Rattle.plain_model.specs.Moves.{moves}
 use Rattle.plain_model.specs.Trees.{PlainTree}
-use Rattle.step_shown.specs.Reaching.{EventReaches}
 use Rattle.file_tables.specs.Keys.{key_of}
 use Rattle.monitor_core.specs.Needing.{EventNeeds}
-use Rattle.turn_forms.specs.Turns.{KeepSlots, moved}
+use Rattle.monitor_core.specs.Reaching.{EventReaches}
+use Rattle.turn_forms.specs.Turns.{moved}
 use Rattle.page_waits.specs.Seats.{has}
 use Rattle.paged_system.specs.Paging.{parts_of}
 use Rattle.paged_system.proofs.DeedDone.{deed_waits, event_did, same, told_as}
@@ -31,13 +31,12 @@ returns-in-Ok-clause-did g c =
     event_did old (record old { system = c.apply.new.self }) c.args.e.now c.in-Ok.reply c.in-Ok.ensures.did c.in-Ok.ensures.shown
 
 pub returns-in-Ok-clause-moved : goal.returns-in-Ok-clause-moved
-returns-in-Ok-clause-moved g c slots =
+returns-in-Ok-clause-moved g c =
     let tree = c.args.self.now.system.tree in
     let clock = c.apply.new.self.panel.clock in
     let is = c.forks.ensures.forks in
     c.follow_event.ensures.moved tree c.trees.ensures c.requires.tied
     (clock, subst (λ (x : PlainTree). EventReaches c.args.e.now clock tree x) (sym is) c.in-Ok.ensures.reach)
-    (subst (λ (x : PlainTree). KeepSlots tree.forks x.forks) (sym is) slots)
     ∙ ap (λ (x : PlainTree). moved (moves tree.forks x.forks) c.args.lists.now.sched) is
 
 pub returns-in-Err-clause-needs : goal.returns-in-Err-clause-needs

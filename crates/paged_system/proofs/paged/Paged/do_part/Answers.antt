@@ -4,8 +4,9 @@ use Rattle.plain_model.specs.Moves.{moves}
 use Rattle.plain_model.specs.Trees.{PlainTree}
 use Rattle.file_tables.specs.Keys.{key_of}
 use Rattle.step_wants.specs.Homes.{told}
-use Rattle.monitor_core.specs.Deeds.{PartNeeds, PartReaches}
-use Rattle.turn_forms.specs.Turns.{KeepSlots, moved}
+use Rattle.monitor_core.specs.Deeds.{PartNeeds}
+use Rattle.monitor_core.specs.Reaching.{PartReaches}
+use Rattle.turn_forms.specs.Turns.{moved}
 use Rattle.page_waits.specs.Seats.{has}
 use Rattle.paged_system.specs.Paging.{parts_of}
 use Rattle.paged_system.proofs.DeedDone.{deed_waits, is_told, part_did}
@@ -28,12 +29,11 @@ returns-in-Ok-clause-did g c =
     part_did old (record old { system = c.part.new.self }) c.args.deed.now c.in-Ok.answer c.requires.part.1 c.in-Ok.ensures.does c.in-Ok.ensures.fits
 
 pub returns-in-Ok-clause-moved : goal.returns-in-Ok-clause-moved
-returns-in-Ok-clause-moved g c slots =
+returns-in-Ok-clause-moved g c =
     let tree = c.args.self.now.system.tree in
     let is = c.forks.ensures.forks in
     c.follow_part.ensures.moved tree c.trees.ensures c.requires.tied
     (subst (λ (x : PlainTree). PartReaches c.in-Ok.answer.showing tree.forks x.forks) (sym is) c.in-Ok.ensures.others)
-    (subst (λ (x : PlainTree). KeepSlots tree.forks x.forks) (sym is) slots)
     ∙ ap (λ (x : PlainTree). moved (moves tree.forks x.forks) c.args.lists.now.sched) is
 
 pub returns-in-Err-clause-needs : goal.returns-in-Err-clause-needs
