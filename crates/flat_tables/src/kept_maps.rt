@@ -182,27 +182,14 @@ impl KeptMaps {
         if look.ready[wanted.number()] {
             return Some(Home(look.number));
         }
-        let code = self.code_behind(at, wanted);
+        if let Some(home) = self.home_behind(at, wanted) {
+            return Some(home);
+        }
+        let code = self.code_along(at, wanted);
         if code > u64::from(u32::MAX) {
             return None;
         }
         Some(Home(code as u32))
-    }
-
-    // The same of an entry that isn't ready itself, as a number, since an Option handed back from a call is tested a
-    // second time. It is cold, so that the way of an entry that is ready goes straight on.
-    #[cold]
-    #[inline(never)]
-    fn code_behind(&self, at: EntryAt, wanted: Use) -> u64
-        requires held { AreHeld self.now.held.items }
-        requires lives { IsSome (fork_at self.now.held.items at.map) }
-        requires page { at.page < SPACE_PAGES }
-        ensures { IsCode result (option_and_then (ready_home wanted) (walk_within CHAIN self.now.held.items at)) }
-    {
-        match self.home_behind(at, wanted) {
-            Some(home) => code_of(Some(home)),
-            None => self.code_along(at, wanted),
-        }
     }
 
     // The same where the entry follows one that names a page, as most do that follow one. None also in a longer chain.
@@ -226,7 +213,9 @@ impl KeptMaps {
         }
     }
 
-    // The same along a chain, as a number.
+    // The same along a chain, as a number, since an Option handed back from a call is tested a second time. It is cold,
+    // so that the way of an entry that is ready goes straight on.
+    #[cold]
     #[inline(never)]
     fn code_along(&self, at: EntryAt, wanted: Use) -> u64
         requires held { AreHeld self.now.held.items }

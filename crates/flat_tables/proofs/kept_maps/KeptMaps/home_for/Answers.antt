@@ -26,10 +26,13 @@ pub returns-then-code-from : goal.returns-then-code-from
 returns-then-code-from c =
     let s = c.args.self.now in
     sym (ap (option_and_then (ready_home c.args.wanted)) (sym (walk_four s.held.items c.args.at))
-    ∙ none_coded c.code_behind-code.result (option_and_then (ready_home c.args.wanted) (walk_within 4 s.held.items c.args.at)) c.code_behind-code.ensures (search rules))
+    ∙ none_coded c.code_along-code.result (option_and_then (ready_home c.args.wanted) (walk_within 4 s.held.items c.args.at)) c.code_along-code.ensures (search rules))
 
 pub returns : goal.returns
 returns c =
     let s = c.args.self.now in
     sym (ap (option_and_then (ready_home c.args.wanted)) (sym (walk_four s.held.items c.args.at))
-    ∙ home_coded c.code_behind-code.result (option_and_then (ready_home c.args.wanted) (walk_within 4 s.held.items c.args.at)) c.code_behind-code.ensures (search rules))
+    ∙ home_coded c.code_along-code.result (option_and_then (ready_home c.args.wanted) (walk_within 4 s.held.items c.args.at)) c.code_along-code.ensures (search rules))
+
+pub returns-in-Some : goal.returns-in-Some
+returns-in-Some c = sym (ap (option_and_then (ready_home c.args.wanted)) (sym (walk_four c.args.self.now.held.items c.args.at)) ∙ c.in-Some.ensures)
