@@ -23,7 +23,7 @@ module _ {P S : Type 0} (store : StoreMeaning S) (part : P → S) where
 
   -- a use of a page of the store is one for the pages
   pub used_within : (home : ℕ) (p q : P) → IsUsed store home (part p) (part q) → IsUsed (within store part) home p q
-  used_within home p q u = record { framed = framed_within p q u.framed; rescued = record { queue = u.rescued.queue; untold = u.rescued.untold }; holds = u.holds; ages = u.ages }
+  used_within home p q u = record { framed = framed_within p q u.framed; rescued = record { queue = u.rescued.queue; untold = u.rescued.untold }; left = u.left; holds = u.holds; ages = u.ages }
 
   stays_within : (p q : P) → StaysThere store (part p) (part q) → StaysThere (within store part) p q
   stays_within p q s = record { homes = s.homes; framed = framed_within p q s.framed; ages = s.ages; uses = s.uses }

@@ -1,13 +1,15 @@
 -- What calls lose of what is queued and held, one after another.
 use Rattle.std.proofs.Common.{◌≡◌, ◌≢◌, ◌⊎◌, inl, inr, ℕ, List, [], ◌∷◌, ◌++◌, Bool, true, false, cond, not, ◌==◌, refl, sym, ◌∙◌, ap, subst, arith, ◌≤◌}
-use Rattle.std.specs.Prelude.{◌||◌, ◌&&◌, Option, None, Some, IsSome}
+use Rattle.std.specs.Prelude.{◌||◌, ◌&&◌, Option, None, Some, IsSome, length, slice_set}
 use Rattle.std.specs.List.{filter, list_any}
 use Rattle.std.specs.Option.{option_map_or}
+use Rattle.std.proofs.lemmas.Bool.{cases_eq, cases_lt}
 use Rattle.std.proofs.lemmas.Bool.Decides.{eqb_tells}
+use Rattle.std.proofs.lemmas.List.{get_or-set_other, get_or-set_same, get_or_past, length-set}
 use Rattle.page_homes.specs.declared.homes.Home.{Home}
 use Rattle.page_contracts.specs.declared.answers.Need.{Need}
 use Rattle.page_contracts.specs.declared.answers.Need.TheVariants.{Page, Frame}
-use Rattle.page_contracts.specs.Stores.{StoreMeaning, Transfer, arrival, departure, Traffic, Loses, Cancels, StaysQueued, IsUsed, IsMade, IsFreed, arrives, departs, moves, need_of, next_use, noted, noted_all, same_need, traffic, without, CanFetch, IsNeeded, HomePlace, KeepsFrame, Renews, RenewsLeft, RenewsNone, RenewsOne, RenewsSome, RenewsThere, tenant_left, CountsAgain, RenewsAgain}
+use Rattle.page_contracts.specs.Stores.{StoreMeaning, Transfer, arrival, departure, Traffic, Loses, Cancels, StaysQueued, IsUsed, IsMade, IsFreed, arrives, departs, moves, need_of, next_use, noted, noted_all, place, same_need, traffic, with_word_in, without, CanFetch, IsNeeded, HomePlace, free, away, here, is_here, KeepsFrame, NoneLeft, Renews, RenewsLeft, RenewsNone, RenewsOne, RenewsSome, RenewsThere, tenant_left, CountsAgain, RenewsAgain}
 
 or_assoc : (a b c : Bool) → ((a || b) || c) ≡ (a || (b || c))
 or_assoc true b c = refl
@@ -232,9 +234,35 @@ none_renewed t u home tenants ages uses = record {
       | inr k ↦ (ap (λ b. cond b None (Some h)) k.0, λ is. k.1 (ap (λ (o : Option ℕ). option_map_or (λ x. x) o 0) is))
     ]
 
+-- no page has left its frame where each home has what it had
+pub left_same : (old new : List HomePlace) → new ≡ old → NoneLeft old new
+left_same old new same home is = ap (λ (ps : List HomePlace). place ps home) (sym same) ∙ is
+
+-- or one alone has something else, in a frame or free
+pub left_set : (old new : List HomePlace) (home : ℕ) (p : HomePlace) → (p ≡ away → place old home ≡ away) → new ≡ slice_set old home p → NoneLeft old new
+left_set old new home p own same k is = elim (cases_eq k home) [
+  | inr ne ↦ sym (get_or-set_other old home k p free ne) ∙ there
+  | inl e ↦ elim (cases_lt home (length old)) [
+    | inl l ↦ ap (place old) e ∙ own (sym (get_or-set_same old home p free l) ∙ ap (place (slice_set old home p)) (sym e) ∙ there)
+    | inr past ↦ absurd (let z : free ≡ away = sym (get_or_past (slice_set old home p) home free (omega (arith, past, length-set old home p))) ∙ ap (place (slice_set old home p)) (sym e) ∙ there in cc z)
+  ]
+]
+  where
+    there : place (slice_set old home p) k ≡ away
+    there = ap (λ (ps : List HomePlace). place ps k) (sym same) ∙ is
+
+-- or a word of one page is another
+pub left_put : (old new : List HomePlace) (home at w : ℕ) → new ≡ slice_set old home (with_word_in (place old home) at w) → NoneLeft old new
+left_put old new home at w = left_set old new home (with_word_in (place old home) at w) (by (place old home))
+  where
+    by : (p : HomePlace) → with_word_in p at w ≡ away → p ≡ away
+    by free gone = absurd (cc gone)
+    by away gone = refl
+    by (here ws) gone = absurd (cc gone)
+
 -- nothing is lost
-pub loses_none : (t u : Traffic) → u.queue ≡ t.queue → u.untold ≡ t.untold → u.holds ≡ t.holds → u.members ≡ t.members → u.frames ≡ t.frames → RenewsSome t u → Loses t u
-loses_none t u queue untold holds members frames ages = record {
+pub loses_none : (t u : Traffic) → u.queue ≡ t.queue → u.untold ≡ t.untold → u.holds ≡ t.holds → u.members ≡ t.members → u.frames ≡ t.frames → NoneLeft t.homes u.homes → RenewsSome t u → Loses t u
+loses_none t u queue untold holds members frames left ages = record {
   these = λ x. false;
   queue = queue ∙ sym (filter_all t.queue);
   untold = λ need. ap (list_any (same_need need)) untold ∙ or_none (list_any (same_need need) t.untold) ∙ ap (λ b. list_any (same_need need) t.untold || b) (sym (any_none (λ x. same_need need (need_of x)) t.queue));
@@ -242,6 +270,7 @@ loses_none t u queue untold holds members frames ages = record {
   holds = λ holder. ap (λ (f : ℕ → List ℕ). f holder) holds ∙ sym (filter_all (t.holds holder));
   members = members;
   frames = frames;
+  left = left;
   ages = ages;
 }
 
@@ -250,7 +279,7 @@ pub keeps_frames : (t : Traffic) → RenewsNone t t
 keeps_frames t = record { kept = λ frame there. record { tenant = refl; age = refl }; grows = omega arith }
 
 pub loses_nothing : (t : Traffic) → Loses t t
-loses_nothing t = loses_none t t refl refl refl refl refl (renews_none t t (keeps_frames t))
+loses_nothing t = loses_none t t refl refl refl refl refl (λ home is. is) (renews_none t t (keeps_frames t))
 
 -- what is lost by one call and then by another is lost by both
 pub loses_on : (t u v : Traffic) → Loses t u → Loses u v → Loses t v
@@ -267,6 +296,7 @@ loses_on t u v first then = record {
   holds = λ holder. then.holds holder ∙ ap (filter (λ home. not (then.given home))) (first.holds holder) ∙ filter_on first.given then.given (t.holds holder);
   members = then.members ∙ first.members;
   frames = then.frames ∙ first.frames;
+  left = λ home is. first.left home (then.left home is);
   ages = renews_on t u v first.ages then.ages;
 }
 
@@ -374,8 +404,8 @@ cancels_none means these old new none c = record {
 
 module _ {S : Type 0} (means : StoreMeaning S) (old new : S) where
   -- transfers that are taken from the queue, and pages that are held no more
-  loses_taken : (these : Transfer → Bool) → Cancels means these old new → (given : ℕ → Bool) → ((holder : ℕ) → means.holds new holder ≡ filter (λ home. not (given home)) (means.holds old holder)) → means.members new ≡ means.members old → means.frames new ≡ means.frames old → RenewsSome (traffic means old) (traffic means new) → Loses (traffic means old) (traffic means new)
-  loses_taken these c given holds members frames ages = record {
+  loses_taken : (these : Transfer → Bool) → Cancels means these old new → (given : ℕ → Bool) → ((holder : ℕ) → means.holds new holder ≡ filter (λ home. not (given home)) (means.holds old holder)) → means.members new ≡ means.members old → means.frames new ≡ means.frames old → NoneLeft (means.homes old) (means.homes new) → RenewsSome (traffic means old) (traffic means new) → Loses (traffic means old) (traffic means new)
+  loses_taken these c given holds members frames left ages = record {
     these = these;
     queue = c.queue;
     untold = λ need.
@@ -385,6 +415,7 @@ module _ {S : Type 0} (means : StoreMeaning S) (old new : S) where
     holds = holds;
     members = members;
     frames = frames;
+    left = left;
     ages = ages;
   }
 
@@ -414,11 +445,11 @@ module _ {S : Type 0} (means : StoreMeaning S) (old new : S) where
   -- a use, a making and a giving up lose so
   pub loses_used : (home : ℕ) → IsUsed means home old new → Loses (traffic means old) (traffic means new)
   loses_used home k =
-      loses_taken (departs home) k.rescued (λ h. false) (λ holder. ap (λ (f : ℕ → List ℕ). f holder) k.holds ∙ sym (filter_all (means.holds old holder))) k.framed.members k.framed.frames
+      loses_taken (departs home) k.rescued (λ h. false) (λ holder. ap (λ (f : ℕ → List ℕ). f holder) k.holds ∙ sym (filter_all (means.holds old holder))) k.framed.members k.framed.frames k.left
       (renews_home t u home (used_one home k))
 
   pub loses_made : (home : ℕ) (page : HomePlace) → IsMade means home page old new → Loses (traffic means old) (traffic means new)
-  loses_made home page m = loses_none t u m.queued.queue m.queued.untold m.holds m.members m.frames (renews_home t u home (made_one home page m))
+  loses_made home page m = loses_none t u m.queued.queue m.queued.untold m.holds m.members m.frames (left_set (means.homes old) (means.homes new) home page (λ gone. absurd (let z : false ≡ true = sym (ap is_here gone) ∙ m.in_frame in cc z)) m.homes) (renews_home t u home (made_one home page m))
 
   pub freed_none : (home : ℕ) → IsFreed means home old new → RenewsNone (traffic means old) (traffic means new)
   freed_none home f = none_renewed t u home f.tenants f.ages (let same = f.uses in omega (arith, same))
@@ -430,7 +461,7 @@ module _ {S : Type 0} (means : StoreMeaning S) (old new : S) where
       ∙ elim (eqb_tells other home) [ inl k ↦ absurd (ne k.1) | inr k ↦ ap (λ b. cond b None (Some other)) k.0 ]
 
   pub loses_freed : (home : ℕ) → IsFreed means home old new → Loses (traffic means old) (traffic means new)
-  loses_freed home f = loses_taken (moves home) f.cancelled (λ k. k == home) (λ holder. ap (λ (g : ℕ → List ℕ). g holder) f.holds) f.members f.frames (renews_none t u (freed_none home f))
+  loses_freed home f = loses_taken (moves home) f.cancelled (λ k. k == home) (λ holder. ap (λ (g : ℕ → List ℕ). g holder) f.holds) f.members f.frames (left_set (means.homes old) (means.homes new) home free (λ gone. absurd (cc gone)) f.homes) (renews_none t u (freed_none home f))
 
 -- what is needed can be asked for
 pub can_fetch : {S : Type 0} (means : StoreMeaning S) (most : ℕ) (s : S) (need : Need) → IsNeeded means most s need → CanFetch means s need

@@ -64,6 +64,10 @@ abbrev pub with_word_in : HomePlace → ℕ → ℕ → HomePlace
 with_word_in (here words) at word = here (slice_set words at word)
 with_word_in p at word = p
 
+-- no page has left its frame: what is in no frame was in none
+abbrev pub NoneLeft : (old new : List HomePlace) → Type 0
+NoneLeft old new = (home : ℕ) → place new home ≡ away → place old home ≡ away
+
 -- how many homes are free
 abbrev pub free_homes : List HomePlace → ℕ
 free_homes places = count_by is_free places
@@ -178,10 +182,11 @@ abbrev pub tenant_left : ℕ → Option ℕ → Option ℕ
 tenant_left home None = None
 tenant_left home (Some other) = if other == home then None else Some other
 
--- WHAT STANDS BESIDE THE PAGES: the transfers that are queued, the oldest first; what those would have told that were taken from the queue, as
+-- WHERE THE PAGES ARE, AND WHAT STANDS BESIDE THEM: the place of each home's page; the transfers that are queued, the oldest first; what those would have told that were taken from the queue, as
 -- far as it is not told yet; the homes whose frames are held for each holder; how many forks may have their pages in core together; how many frames
 -- there are; of each frame the home that it is given to, and its age; and the number of the next use
 pub record Traffic : Type 0 where
+  pub homes : List HomePlace
   pub queue : List Transfer
   pub untold : List Need
   pub holds : ℕ → List ℕ
@@ -236,7 +241,7 @@ pub record RenewsSome (old new : Traffic) : Type 0 where
   pub grows : old.uses ≤ new.uses
 
 -- Transfers were taken from the queue, and what each of them would have told is to be told; what was to be told still is, and nothing else is.
--- Pages that were held may be held no more. Nothing was queued, and nothing more is held. Only what was used is younger than it was.
+-- Pages that were held may be held no more. Nothing was queued, and nothing more is held. No page has left its frame, and only what was used is younger than it was.
 pub record Loses (old new : Traffic) : Type 0 where
   pub these : Transfer → Bool
   pub queue : new.queue ≡ without these old.queue
@@ -245,6 +250,7 @@ pub record Loses (old new : Traffic) : Type 0 where
   pub holds : (holder : ℕ) → new.holds holder ≡ filter (λ home. not (given home)) (old.holds holder)
   pub members : new.members ≡ old.members
   pub frames : new.frames ≡ old.frames
+  pub left : NoneLeft old.homes new.homes
   pub ages : RenewsSome old new
 
 -- how many forks may have their pages in so many frames: 128 frames for each, of those that are over 32
@@ -327,7 +333,7 @@ pub record StoreMeaning (S : Type 0) : Type 0 where
 
 module _ {S : Type 0} (means : StoreMeaning S) where
   abbrev pub traffic : S → Traffic
-  traffic s = record { queue = means.queue s; untold = means.untold s; holds = means.holds s; members = means.members s; frames = means.frames s; tenant = means.tenant s; age = means.age s; uses = means.uses s }
+  traffic s = record { homes = means.homes s; queue = means.queue s; untold = means.untold s; holds = means.holds s; members = means.members s; frames = means.frames s; tenant = means.tenant s; age = means.age s; uses = means.uses s }
 
   -- a frame's page may leave it: no transfer moves it, and for nobody is it held
   pub record CanLeave (s : S) (frame home : ℕ) : Type 0 where
@@ -438,6 +444,7 @@ module _ {S : Type 0} (means : StoreMeaning S) where
   pub record IsUsed (home : ℕ) (old new : S) : Type 0 where
     pub framed : StaysFramed old new
     pub rescued : Cancels (departs home) old new
+    pub left : NoneLeft (means.homes old) (means.homes new)
     pub holds : means.holds new ≡ means.holds old
     pub ages : Renews home (means.tenant new) (means.age old) (means.age new) (means.uses old) (means.uses new)
 
@@ -445,6 +452,7 @@ module _ {S : Type 0} (means : StoreMeaning S) where
   pub record IsMade (home : ℕ) (page : HomePlace) (old new : S) : Type 0 where
     pub below : home < length (means.homes old)
     pub was_free : place (means.homes old) home ≡ free
+    pub in_frame : is_here page ≡ true
     pub homes : means.homes new ≡ slice_set (means.homes old) home page
     pub frames : means.frames new ≡ means.frames old
     pub spare : means.spare new + 1 ≡ means.spare old

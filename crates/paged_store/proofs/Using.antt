@@ -6,8 +6,9 @@ use Rattle.std.proofs.lemmas.List.{get_or-set_same, get_or-set_other, set-get_or
 use Rattle.page_contracts.specs.declared.answers.Need.{Need}
 use Rattle.page_contracts.specs.declared.answers.Need.TheVariants.{Frame}
 use Rattle.page_contracts.specs.declared.answers.Found.{Found}
-use Rattle.page_contracts.specs.Stores.{HomePlace, free, away, here, place, is_here, with_word_in, word_in, IsUsed, Cancels, Renews, departs, noted, noted_all}
+use Rattle.page_contracts.specs.Stores.{HomePlace, free, away, here, place, is_here, with_word_in, word_in, IsUsed, Cancels, NoneLeft, Renews, departs, noted, noted_all}
 use Rattle.page_contracts.specs.Stores as meaning
+use Rattle.page_contracts.proofs.Losing.{left_same}
 use Rattle.drum_queue.specs.declared.transfer.Transfer.{Transfer}
 use Rattle.drum_queue.specs.declared.transfer.Transfer.TheVariants.{Read, Write}
 use Rattle.drum_queue.specs.Transfers.{Transfers, transfer_of, without, writes}
@@ -56,8 +57,8 @@ pub used_parts : (old new : PagedStore) (f h : ℕ) → home_at old.core.frames.
     → ((g : ℕ) → reads (transfer_of g new.core.queue.queued) ≡ reads (transfer_of g old.core.queue.queued))
     → new.core.queue.queued ≡ cond (writes (transfer_of f old.core.queue.queued)) (without f old.core.queue.queued) old.core.queue.queued
     → new.untold.needs ≡ cond (writes (transfer_of f old.core.queue.queued)) (noted Frame old.untold.needs) old.untold.needs
-    → new.holders ≡ old.holders → IsUsed paged_meaning h old new
-used_parts old new f h given shown renewed seats read queue untold holders =
+    → new.holders ≡ old.holders → NoneLeft (homes_of old) (homes_of new) → IsUsed paged_meaning h old new
+used_parts old new f h given shown renewed seats read queue untold holders left =
     record {
       framed = record {
         frames = seats.size;
@@ -67,6 +68,7 @@ used_parts old new f h given shown renewed seats read queue untold holders =
         members = ap members_of seats.size;
       };
       rescued = used_cancels old new f h given queue untold;
+      left = left;
       holds = ap (λ (hs : List (List ℕ)). let g : ℕ → List ℕ = λ k. held_by hs k in g) holders;
       ages = renews_at old.core.frames.seats new.core.frames.seats old.core.queue.queued new.core.queue.queued f h (λ g ne. read g) old.core.frames.uses new.core.frames.uses new.core.resident.single (seats.homes f ∙ given) (read f ∙ shown) renewed;
     }
@@ -74,8 +76,8 @@ used_parts old new f h given shown renewed seats read queue untold holders =
 pub used_is : (old new : PagedStore) (f h : ℕ) → home_at old.core.frames.seats f ≡ Some h → reads (transfer_of f old.core.queue.queued) ≡ false → IsInPlace old new → IsRenewed f old.core.frames.seats new.core.frames.seats old.core.frames.uses new.core.frames.uses
     → new.core.queue.queued ≡ cond (writes (transfer_of f old.core.queue.queued)) (without f old.core.queue.queued) old.core.queue.queued
     → new.untold.needs ≡ cond (writes (transfer_of f old.core.queue.queued)) (noted Frame old.untold.needs) old.untold.needs
-    → new.holders ≡ old.holders → IsUsed paged_meaning h old new
-used_is old new f h given shown stays renewed queue untold holders = used_parts old new f h given shown renewed stays.seats stays.reads_stay queue untold holders
+    → new.holders ≡ old.holders → homes_of new ≡ homes_of old → IsUsed paged_meaning h old new
+used_is old new f h given shown stays renewed queue untold holders homes = used_parts old new f h given shown renewed stays.seats stays.reads_stay queue untold holders (left_same (homes_of old) (homes_of new) homes)
 
 -- a use once a word has changed, which moves no page
 pub used_after : (old new : PagedStore) (o : Residence) (f h : ℕ) → home_at old.core.frames.seats f ≡ Some h → reads (transfer_of f old.core.queue.queued) ≡ false → IsRenewed f o.frames.seats new.core.frames.seats o.frames.uses new.core.frames.uses
@@ -83,12 +85,12 @@ pub used_after : (old new : PagedStore) (o : Residence) (f h : ℕ) → home_at 
     → ((g : ℕ) → reads (transfer_of g new.core.queue.queued) ≡ reads (transfer_of g o.queue.queued))
     → new.core.queue.queued ≡ cond (writes (transfer_of f o.queue.queued)) (without f o.queue.queued) o.queue.queued
     → new.untold.needs ≡ cond (writes (transfer_of f o.queue.queued)) (noted Frame old.untold.needs) old.untold.needs
-    → new.holders ≡ old.holders → IsUsed paged_meaning h old new
-used_after old new o f h given shown renewed uses same queue_same seats read queue untold holders =
+    → new.holders ≡ old.holders → NoneLeft (homes_of old) (homes_of new) → IsUsed paged_meaning h old new
+used_after old new o f h given shown renewed uses same queue_same seats read queue untold holders left =
     used_parts old new f h given shown (subst (λ (n : ℕ). IsRenewed f old.core.frames.seats new.core.frames.seats n new.core.frames.uses) uses (subst (λ (ss : Seats). IsRenewed f ss new.core.frames.seats o.frames.uses new.core.frames.uses) same renewed)) (subst (λ (ss : Seats). SeatsRest ss new.core.frames.seats) same seats)
     (λ g. read g ∙ ap (λ (q : Transfers). reads (transfer_of g q.queued)) queue_same)
     (queue ∙ ap (λ (q : Transfers). cond (writes (transfer_of f q.queued)) (without f q.queued) q.queued) queue_same)
-    (untold ∙ ap (λ (q : Transfers). cond (writes (transfer_of f q.queued)) (noted Frame old.untold.needs) old.untold.needs) queue_same) holders
+    (untold ∙ ap (λ (q : Transfers). cond (writes (transfer_of f q.queued)) (noted Frame old.untold.needs) old.untold.needs) queue_same) holders left
 
 reads_only : (o : Option Transfer) → reads o ≡ true → writes o ≡ false
 reads_only None e = refl
@@ -109,6 +111,7 @@ used_same s h none = at (frame_for s.core.frames.seats h) refl
         record {
           framed = record { frames = refl; spare = refl; found = refl; tenant = refl; members = refl };
           rescued = record { queue = sym own.others; untold = sym (ap (λ (ts : List meaning.Transfer). noted_all ts s.untold.needs) own.those) };
+          left = λ home is. is;
           holds = refl;
           ages = used_none s h (λ frame has. none_has s.core.frames.seats h is frame (tenant_given s.core.frames.seats s.core.queue.queued frame h has).0);
         }
@@ -120,6 +123,7 @@ used_same s h none = at (frame_for s.core.frames.seats h) refl
           framed = record { frames = refl; spare = refl; found = refl; tenant = refl; members = refl };
           rescued = used_cancels s s f h given
               (ap (λ (b : Bool). cond b (without f s.core.queue.queued) s.core.queue.queued) (sym idle)) (ap (λ (b : Bool). cond b (noted Frame s.untold.needs) s.untold.needs) (sym idle));
+          left = λ home is. is;
           holds = refl;
           ages = used_none s h (λ frame has.
               let there = tenant_given s.core.frames.seats s.core.queue.queued frame h has in

@@ -88,7 +88,7 @@ set_twice (w ∷ xs) (suc i) y z = ap (λ ys. w ∷ ys) (set_twice xs i y z)
 
 -- a page that was made and then used, with other words, is made with these
 module _ {S : Type 0} (means : StoreMeaning S) (home : ℕ) (old mid new : S) (p q : HomePlace) (sound : IsSound means old) (m : IsMade means home p old mid) (u : IsUsed means home mid new)
-    (homes : means.homes new ≡ slice_set (means.homes mid) home q) where
+    (homes : means.homes new ≡ slice_set (means.homes mid) home q) (in_frame : is_here q ≡ true) where
   none_departs : list_any (departs home) (means.queue old) ≡ false
   none_departs = by (list_any (departs home) (means.queue old)) refl
     where
@@ -100,6 +100,7 @@ module _ {S : Type 0} (means : StoreMeaning S) (home : ℕ) (old mid new : S) (p
   made_again = record {
     below = m.below;
     was_free = m.was_free;
+    in_frame = in_frame;
     homes = homes ∙ ap (λ ps. slice_set ps home q) m.homes ∙ set_twice (means.homes old) home p q;
     frames = u.framed.frames ∙ m.frames;
     spare = ap (λ n. n + 1) u.framed.spare ∙ m.spare;

@@ -1,4 +1,4 @@
-use Rattle.std.proofs.Common.{◌≡◌, ◌∙◌, sym, ap, subst}
+use Rattle.std.proofs.Common.{◌≡◌, ◌∙◌, refl, sym, ap, subst}
 use Rattle.std.specs.Prelude.{slice_set}
 use Rattle.std.proofs.lemmas.List.{get_or-set_same}
 use Rattle.page_contracts.specs.Stores.{free, here, place, with_word_in, IsMade}
@@ -22,4 +22,4 @@ loop-page-preserved g c =
     let put : means.homes c.put.new.self ≡ slice_set mid home (here (slice_set words page (following_word c.args.serial page))) =
     c.put.ensures.homes ∙ λ i. slice_set mid home (with_word_in (at i) page (c.encode-word.ensures i)) in
     subst (λ ws. IsMade means home (here ws) c.args.store.now c.put.new.self) (sym (following_more c.args.serial page))
-    (made_again means home c.args.store.now c.loop-page.store c.put.new.self (here words) (here (slice_set words page (following_word c.args.serial page))) (g.met.S.Store.sound c.args.store.now) m c.put.ensures.used put)
+    (made_again means home c.args.store.now c.loop-page.store c.put.new.self (here words) (here (slice_set words page (following_word c.args.serial page))) (g.met.S.Store.sound c.args.store.now) m c.put.ensures.used put refl)

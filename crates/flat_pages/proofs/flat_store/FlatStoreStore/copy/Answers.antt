@@ -35,6 +35,7 @@ returns c =
       made = record {
         below = at.0;
         was_free = at.1;
+        in_frame = c.requires.from;
         homes = homes;
         frames = ap (λ (ps : List HomePlace). length ps) homes ∙ length-set _ _ _;
         found = λ other ne. found_other _ _ c.index-home.result.now.0 _ homes other ne;

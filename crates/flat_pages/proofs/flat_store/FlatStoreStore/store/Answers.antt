@@ -1,5 +1,6 @@
 use Rattle.std.proofs.Common.{◌≡◌, ◌∙◌, length, arith, true, refl, sym, ap, subst, slice_set, rules, List}
 use Rattle.std.proofs.lemmas.List.{length-set}
+use Rattle.page_contracts.proofs.Losing.{left_put}
 use Rattle.page_contracts.specs.Stores.{HomePlace, place, is_taken, with_word_in, free_homes}
 use Rattle.flat_pages.specs.StoredLists.{pages_of}
 use Rattle.flat_pages.specs.StoredPages.{StoredPage, stored_at, places_of, found_at, AreStored}
@@ -44,6 +45,7 @@ returns-clause-used c home is_found =
         members = refl;
       };
       rescued = record { queue = refl; untold = refl };
+      left = left_put (places_of (pages_of s.pages)) _ h c.args.at c.args.word (ap places_of c.put.ensures ∙ put_places s.stored h c.args.at c.args.word taken);
       holds = refl;
       ages = record { counted = record { own = λ frame is. absurd (cc is); none = λ away. refl; grows = omega arith }; others = λ frame no. refl };
     }

@@ -35,6 +35,7 @@ returns c =
       made = record {
         below = made_below s n flags h f words t.below t.free t.taken g.given g.words g.queue;
         was_free = made_free s n flags h f words t.below t.free t.taken g.given g.words g.queue;
+        in_frame = refl;
         homes = homes_made s n flags h f words t.below t.free t.taken g.given g.words g.queue g.idle;
         frames = made_frames s n flags h f words t.below t.free t.taken g.given g.words g.queue;
         spare = made_spare s n flags h f words t.below t.free t.taken g.given g.words g.queue;
