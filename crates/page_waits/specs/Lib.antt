@@ -9,3 +9,5 @@ pub mod Machines
 pub mod Told
 pub mod Holders
 pub mod Nearing
+pub mod Calm
+pub mod Placed

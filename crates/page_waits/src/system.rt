@@ -1,7 +1,7 @@
 // The pages, the jobs with their forks, the files and the clock.
-ghost use Rattle.std.specs.Prelude.{◌≡◌, ◌↔◌, ◌<◌, ◌-◌, ◌≤◌, ◌^◌, ℕ, [], false, length, true, Err, IfErr, IfOk, OnErr, OnOk, is_some};
+ghost use Rattle.std.specs.Prelude.{◌≡◌, ◌↔◌, ◌<◌, ◌-◌, ◌≤◌, ◌^◌, ℕ, [], count_by, false, length, true, Err, IfErr, IfOk, OnErr, OnOk, is_some};
 ghost use Rattle.std.specs.FinMap as map;
-ghost use Rattle.event_deeds.specs.Deeds.{FitsDeed, IsTold, Task, deed_of, unit_of};
+ghost use Rattle.event_deeds.specs.Deeds.{FitsDeed, IsNext, IsTold, Task, deed_of, unit_of};
 ghost use Rattle.event_deeds.specs.declared.deed.Deed.{Deed as ADeed};
 ghost use Rattle.fork_lists.specs.Ties.{AreTied};
 ghost use Rattle.fork_tree.specs.Trees.{IsTree};
@@ -11,15 +11,17 @@ ghost use Rattle.job_sched.specs.Units.{IsRow, row_ran};
 ghost use Rattle.machine_names.specs.Bounds.{IsTerminal};
 ghost use Rattle.outside.specs.Faults.{Rose};
 ghost use Rattle.page_contracts.specs.DrumWords.{DrumWords};
-ghost use Rattle.page_contracts.specs.Stores.{CanFetch, CanKeep, Completes, Evicts, IsFetched, Keeps, LetsGo, Tells, awaited, meeting, most_held};
+ghost use Rattle.page_contracts.specs.Stores.{CanFetch, CanKeep, Completes, Evicts, IsFetched, Keeps, LetsGo, Tells, awaited, is_taken, meeting, most_held};
 ghost use Rattle.page_contracts.specs.declared.answers.Need.{Need as ANeed};
 ghost use Rattle.page_contracts.specs.declared.store.TheConstants.{MOST_HELD_FOR_CONSOLE, MOST_HOLDERS};
 ghost use Rattle.page_homes.specs.declared.homes.Home.{Home as AHome};
 ghost use Rattle.plain_model.specs.Forks.{IsRunnable};
 ghost use Rattle.plain_model.specs.Moves.{moves};
 ghost use Rattle.plain_model.specs.Trees.{tree_of};
+ghost use Rattle.plain_pages.specs.Room.{live};
 ghost use Rattle.script_texts.specs.Taker.{GoesOn, IsCut, StaysOnward};
 ghost use Rattle.turn_forms.specs.Turns.{moved};
+ghost use Rattle.page_waits.specs.Placed.{AreOnDrum};
 ghost use Rattle.page_waits.specs.Seats.{has};
 ghost use Rattle.page_waits.specs.Systems.{DidDeed, DidUnits, FitsShowing, IsHoused, Needs, StaysOver, StaysState, StaysTold, SystemMeaning, most_wanted};
 
@@ -62,7 +64,7 @@ pub trait System {
         ensures needs { IfErr result (Needs means (unit_of who) self.old self.new) }
         ensures stays { IfErr result (λ need. lists.new ≡ lists.old) };
 
-    /// A deed: the lists follow the forks. Err: it needs this first, and nothing has changed.
+    /// A deed: the lists follow the forks. Err: it needs this first, and nothing has changed; a part of a character needs no frame.
     fn deed(&mut self, lists: &mut ForkLists, deed: &Deed) -> Result<Answer, Need>
         requires fits { FitsDeed deed.now }
         requires tied { AreTied (means.tree self.old).forks lists.old }
@@ -74,6 +76,7 @@ pub trait System {
         ensures set { size lists.new.sched ≡ size lists.old.sched }
         ensures needs { IfErr result (Needs means (deed_of deed.now) self.old self.new) }
         ensures told { (home : AHome) → IsTold deed.now → result ≡ Err (ANeed.Page home) → has home.0 (means.told self.old deed.now) ≡ true }
+        ensures unframed { IsNext deed.now → result ≡ Err ANeed.Frame → ⊥ }
         ensures stays { IfErr result (λ need. lists.new ≡ lists.old) };
 
     /// Asks for a page that is in no frame, or for a frame, and answers what to wait for.
@@ -143,6 +146,12 @@ pub trait System {
 
     /// Of few pages and maps the tables tell that a deed refers to them.
     ghost told_few: { (s : Self) (deed : ADeed) → length (means.told s deed) < MOST_HELD_FOR_CONSOLE };
+
+    /// Over each drum that fits, no more homes are taken than pages and forks live.
+    ghost lives: { (s : Self) (d : DrumWords) → means.fits s d → count_by is_taken (means.store.homes s) ≤ live (means.plain s d).pages };
+
+    /// Over each drum that fits, all pages that live but as many as there are frames stand on the drum.
+    ghost placed: { (s : Self) (d : DrumWords) → means.store.flat ≡ false → means.fits s d → AreOnDrum (means.store.frames s) (means.plain s d) d };
 
     /// A task refers to fewer than so many pages and maps.
     ghost wants_few: { (s : Self) (d : DrumWords) (x : Task) → means.fits s d → length (means.wants s d x) < most_wanted x };
