@@ -11,3 +11,4 @@ pub mod Holders
 pub mod Nearing
 pub mod Calm
 pub mod Placed
+pub mod InCore

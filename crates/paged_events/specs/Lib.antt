@@ -4,3 +4,4 @@ pub mod Given
 pub mod Typing
 pub mod Rows
 pub mod Events
+pub mod Calmly
