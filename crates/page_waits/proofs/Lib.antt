@@ -20,3 +20,4 @@ mod Quieting
 mod Nearing
 mod Nearer
 mod Counting
+mod InCore

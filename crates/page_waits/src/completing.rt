@@ -49,6 +49,7 @@ pub fn complete<S: System, D: Drum>(
     ensures within { (n : ℕ) → S.means.within system.old n → S.means.within system.new n }
     ensures bare { console ≡ None → S.means.store.holds system.old CONSOLE_HOLDER ≡ [] → S.means.store.holds system.new CONSOLE_HOLDER ≡ [] }
     ensures nothing { result ≡ Completed.Nothing → S.means.store.queue system.old ≡ [] }
+    ensures empty { S.means.store.queue system.old ≡ [] → result ≡ Completed.Nothing }
     ensures lists { result ≡ Completed.Nothing → lists.new ≡ lists.old }
     ensures limit { S.means.limit system.new ≡ S.means.limit system.old }
 {

@@ -27,6 +27,9 @@ pub fn tell<S: System>(system: &mut S, lists: &mut ForkLists)
     ensures tied { (forks : AForkMap) → AreTied forks lists.old → AreTied forks lists.new }
     ensures holds { S.means.store.holds system.new ≡ S.means.store.holds system.old }
     ensures members { S.means.store.members system.new ≡ S.means.store.members system.old }
+    ensures there { StaysThere S.means.store system.old system.new }
+    ensures queue { S.means.store.queue system.new ≡ S.means.store.queue system.old }
+    ensures none { S.means.store.untold system.old ≡ [] → lists.new ≡ lists.old }
 {
     while let Some(need) = system.cancelled() {
         wake(lists, need);

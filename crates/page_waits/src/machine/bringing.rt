@@ -1,13 +1,16 @@
 // Deeds of the console: what they need is brought into core, whatever AUTO says.
-ghost use Rattle.std.specs.Prelude.{◌≡◌, ◌+◌, ◌<◌, ◌≤◌, ◌^◌, ℕ, IfOk, IfSome, OnErr, Option as AnOption, Ok, Err, Some, None};
+ghost use Rattle.std.specs.Prelude.{◌≡◌, ◌⊎◌, ◌+◌, ◌<◌, ◌≤◌, ◌^◌, ℕ, IfOk, IfSome, IsOkAnd, IsSome, OnErr, Option as AnOption, Ok, Err, Some, None};
 ghost use Rattle.event_deeds.specs.Deeds.{FitsDeed, IsTold, entries_of};
 ghost use Rattle.event_deeds.specs.declared.deed.Deed.{Deed as ADeed};
 ghost use Rattle.outside.specs.Faults.{Rose};
+ghost use Rattle.page_contracts.specs.DrumWords.{DrumWords};
 ghost use Rattle.page_contracts.specs.declared.answers.Need.{Need as ANeed};
 ghost use Rattle.plain_model.specs.Moves.{moves};
 ghost use Rattle.turn_forms.specs.Turns.{moved};
 ghost use Rattle.page_waits.specs.Acts.{DidOver, DidThere, Quiet, Spent, Still, told_work};
+ghost use Rattle.page_waits.specs.Calm.{IsRoomy};
 ghost use Rattle.page_waits.specs.Holders.{AreReleased};
+ghost use Rattle.page_waits.specs.InCore.{IsInCore};
 ghost use Rattle.page_waits.specs.Machines.{IsBare, KeepsMarks, auto, limit};
 ghost use Rattle.page_waits.specs.Systems.{StaysTold};
 ghost use Rattle.event_deeds.specs.Deeds.{IsNext};
@@ -54,6 +57,7 @@ impl<S: System> Machine<S> {
         ensures fewer { (n : ANeed) → IsTold deed.now → result ≡ Err n → told_work S.means the_lists deed.now (Some n) self.new.system self.new.lists ≤ told_work S.means the_lists deed.now None self.old.system self.old.lists }
         ensures awaited { (n : ANeed) → result ≡ Err n → AreAwaited S.means (waits_with (Some n) (the_lists.waiting self.new.lists)) self.new.system }
         ensures mark { auto self.new ≡ auto self.old }
+        ensures calm { (frames : ℕ) (d : DrumWords) → S.means.fits self.old.system d → IsInCore S.means frames self.old.system self.old.lists → IsNext deed.now ⊎ IsRoomy frames (S.means.plain self.old.system d) → IsOkAnd result (λ answer. IsInCore S.means frames self.new.system self.new.lists) }
     {
         self.lists.sound();
         let holders = held_members(&self.system, &self.lists);
@@ -101,7 +105,8 @@ impl<S: System> Machine<S> {
         self.system.let_go(CONSOLE_HOLDER);
     }
 
-    /// Does a deed once all that it needs is in core. None, where so many transfers have ended for it: that never is, over what a drum tells.
+    /// Does a deed once all that it needs is in core. None, where so many transfers have ended for it: that never is, over what a drum tells. Where all is in core, and
+    /// few pages live or the deed is a part of a character (`calm`), it is done at once, and all is in core behind it.
     pub fn bring<D: Drum>(&mut self, deed: &Deed, drum: &mut D) -> Result<Option<Answer>, Failed>
         requires drum { limit self.old ≤ D.size drum.old }
         requires fits { FitsDeed deed.now }
@@ -121,6 +126,8 @@ impl<S: System> Machine<S> {
         ensures bare { IfOk result (λ came. IsBare self.new) }
         ensures limit { limit self.new ≡ limit self.old }
         ensures mark { auto self.new ≡ auto self.old }
+        ensures calm { (frames : ℕ) (d : DrumWords) → S.means.fits self.old.system d → IsInCore S.means frames self.old.system self.old.lists → IsNext deed.now ⊎ IsRoomy frames (S.means.plain self.old.system d) → IsOkAnd result (λ came. IsInCore S.means frames self.new.system self.new.lists) }
+        ensures answers { (frames : ℕ) (d : DrumWords) → S.means.fits self.old.system d → IsInCore S.means frames self.old.system self.old.lists → IsNext deed.now ⊎ IsRoomy frames (S.means.plain self.old.system d) → IfOk result IsSome }
     {
         let mut left = MOST_TRANSFERS;
         let mut waits: Option<Need> = None;
@@ -147,7 +154,8 @@ impl<S: System> Machine<S> {
         }
     }
 
-    /// Does a deed of which the tables alone tell to what it refers, once all of it is in core. As many transfers end as it needs, whatever the drum holds.
+    /// Does a deed of which the tables alone tell to what it refers, once all of it is in core. As many transfers end as it needs, whatever the drum holds. Where all is
+    /// in core, and few pages live or the deed is a part of a character (`calm`), it is done at once, and all is in core behind it.
     pub fn bring_told<D: Drum>(&mut self, deed: &Deed, drum: &mut D) -> Result<Answer, Failed>
         requires drum { limit self.old ≤ D.size drum.old }
         requires fits { FitsDeed deed.now }
@@ -165,6 +173,7 @@ impl<S: System> Machine<S> {
         ensures bare { IfOk result (λ answer. IsBare self.new) }
         ensures limit { limit self.new ≡ limit self.old }
         ensures mark { auto self.new ≡ auto self.old }
+        ensures calm { (frames : ℕ) (d : DrumWords) → S.means.fits self.old.system d → IsInCore S.means frames self.old.system self.old.lists → IsNext deed.now ⊎ IsRoomy frames (S.means.plain self.old.system d) → IsOkAnd result (λ answer. IsInCore S.means frames self.new.system self.new.lists) }
     {
         let mut waits: Option<Need> = None;
         loop {

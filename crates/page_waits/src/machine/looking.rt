@@ -1,5 +1,5 @@
 // The look for units: heads of the ready list are planned, and transfers end.
-ghost use Rattle.std.specs.Prelude.{◌≡◌, ◌≢◌, ◌+◌, ◌-◌, ◌<◌, ◌≤◌, ◌^◌, [], ℕ, false, true, None, Ok, IfSome, IfOk, OnErr, length, drop};
+ghost use Rattle.std.specs.Prelude.{◌≡◌, ◌≢◌, ◌+◌, ◌-◌, ◌<◌, ◌≤◌, ◌^◌, [], ℕ, false, true, None, Ok, IfSome, IfOk, IsOkAnd, IsSomeAnd, MatchOption, OnErr, length, drop};
 ghost use Rattle.fork_lists.specs.Following.{last_counted};
 ghost use Rattle.fork_lists.specs.Ties.{AreTied};
 ghost use Rattle.job_sched.specs.Schedules.{arrived, heads};
@@ -7,14 +7,17 @@ ghost use Rattle.job_sched.specs.Units.{IsRow, row_ran};
 ghost use Rattle.machine_names.specs.declared.names.ForkName.{ForkName as AForkName};
 ghost use Rattle.machine_names.specs.declared.names.TheConstants.{QUANTUM};
 ghost use Rattle.outside.specs.Faults.{Rose};
+ghost use Rattle.page_contracts.specs.DrumWords.{DrumWords};
 ghost use Rattle.page_contracts.specs.declared.answers.Need.{Need as ANeed};
 ghost use Rattle.page_contracts.specs.declared.store.TheConstants.{CONSOLE_HOLDER};
 ghost use Rattle.plain_model.specs.Forks.{ForkMap as AForkMap, IsRunnable};
 ghost use Rattle.plain_model.specs.Moves.{moves};
 ghost use Rattle.turn_forms.specs.Turns.{moved};
 ghost use Rattle.page_waits.specs.Acts.{IdledOver, Quiet, Ran, RanOver, Still, Turned, turns_of};
+ghost use Rattle.page_waits.specs.Calm.{IsRoomy};
 ghost use Rattle.page_waits.specs.Holders.{AreAll, AreReleased, holder_at};
 ghost use Rattle.page_waits.specs.Idling.{IsIdle, Moved};
+ghost use Rattle.page_waits.specs.InCore.{IdledCalmly, IsInCore, RanCalmly, TookCalmly};
 ghost use Rattle.page_waits.specs.Machines.{IsBare, KeepsMarks, auto, limit};
 ghost use Rattle.page_waits.specs.Systems.{StaysState};
 ghost use Rattle.page_waits.specs.Told.{LastCounted, MovesSilently, TookRow, ends_quantum};
@@ -84,6 +87,8 @@ fn finish<S: System>(system: &mut S, lists: &mut ForkLists, head: Head, holders:
     ensures all { AreAll holders.now (S.means.store.holds system.new) }
     ensures state { StaysState S.means system.old system.new }
     ensures bare { S.means.store.holds system.old CONSOLE_HOLDER ≡ [] → S.means.store.holds system.new CONSOLE_HOLDER ≡ [] }
+    ensures calm { (frames : ℕ) → IsInCore S.means frames system.old lists.old → lists.new.sched ≡ last_counted head.fork lists.old.sched }
+    ensures core { (frames : ℕ) → IsInCore S.means frames system.old lists.old → IsInCore S.means frames system.new lists.new }
 {
     system.let_go(head.seat);
     tell(system, lists);
@@ -113,6 +118,7 @@ impl<S: System> Machine<S> {
         ensures bare { IsBare self.new }
         ensures limit { limit self.new ≡ limit self.old }
         ensures mark { auto self.new ≡ auto self.old }
+        ensures calm { (frames : ℕ) (d : DrumWords) → S.means.fits self.old.system d → IsInCore S.means frames self.old.system self.old.lists → IsRoomy frames (S.means.plain self.old.system d) → IsSomeAnd result (λ u. RanCalmly S.means frames u self.old.system self.new.system self.old.lists self.new.lists) }
     {
         self.lists.sound();
         let holders = held_members(&self.system, &self.lists);
@@ -152,6 +158,7 @@ impl<S: System> Machine<S> {
         ensures bare { IsBare self.new }
         ensures limit { limit self.new ≡ limit self.old }
         ensures mark { auto self.new ≡ auto self.old }
+        ensures calm { (frames : ℕ) (d : DrumWords) → S.means.fits self.old.system d → IsInCore S.means frames self.old.system self.old.lists → IsRoomy frames (S.means.plain self.old.system d) → MatchOption result (IdledCalmly S.means self.old.system self.new.system self.old.lists self.new.lists) (λ u. RanCalmly S.means frames u self.old.system self.new.system self.old.lists self.new.lists) }
     {
         while let Some(head) = next_head(&self.lists, self.system.forks()) {
             if let Some(u) = self.plan(head, left) {
@@ -175,6 +182,7 @@ impl<S: System> Machine<S> {
         ensures oldest { (n : ANeed) → result ≡ Completed.Done n → S.means.store.queue self.new.system ≡ drop 1 (S.means.store.queue self.old.system) }
         ensures seated { the_lists.member self.new.lists ≡ the_lists.member self.old.lists }
         ensures nothing { result ≡ Completed.Nothing → S.means.store.queue self.old.system ≡ [] }
+        ensures empty { S.means.store.queue self.old.system ≡ [] → result ≡ Completed.Nothing }
         ensures system { result ≡ Completed.Nothing → self.new.system ≡ self.old.system }
         ensures lists { result ≡ Completed.Nothing → self.new.lists ≡ self.old.lists }
         ensures stays { result ≡ Completed.Nothing → drum.new ≡ drum.old }
@@ -207,6 +215,7 @@ impl<S: System> Machine<S> {
         ensures bare { IsBare self.new }
         ensures limit { limit self.new ≡ limit self.old }
         ensures mark { auto self.new ≡ auto self.old }
+        ensures calm { (frames : ℕ) (d : DrumWords) → S.means.fits self.old.system d → IsInCore S.means frames self.old.system self.old.lists → IsRoomy frames (S.means.plain self.old.system d) → IsOkAnd result (λ came. MatchOption came (IdledCalmly S.means self.old.system self.new.system self.old.lists self.new.lists) (λ u. RanCalmly S.means frames u self.old.system self.new.system self.old.lists self.new.lists)) }
     {
         let mut left = MOST_TRANSFERS;
         loop {
@@ -241,7 +250,8 @@ impl<S: System> Machine<S> {
     }
 
     /// The next turns of a run, so many at most: units of a fork that is ready; under AUTO ON transfers end until there is one, so many at most. Where nobody is
-    /// ready then, all that are left are idle entries; only one is, where so many transfers have ended for it.
+    /// ready then, all that are left are idle entries; only one is, where so many transfers have ended for it. Where all is in core and few pages live (`calm`), no
+    /// fork waits and no transfer ends, so this never fails.
     pub fn turns<D: Drum>(&mut self, most: u32, drum: &mut D) -> Result<Turn, Failed>
         requires drum { limit self.old ≤ D.size drum.old }
         requires bare { IsBare self.old }
@@ -263,6 +273,7 @@ impl<S: System> Machine<S> {
         ensures bare { IsBare self.new }
         ensures limit { limit self.new ≡ limit self.old }
         ensures mark { auto self.new ≡ auto self.old }
+        ensures calm { (frames : ℕ) (d : DrumWords) → S.means.fits self.old.system d → IsInCore S.means frames self.old.system self.old.lists → IsRoomy frames (S.means.plain self.old.system d) → IsOkAnd result (λ turn. TookCalmly S.means frames turn self.old.system self.new.system self.old.lists self.new.lists) }
     {
         match self.look(most, drum)? {
             Some(u) => Ok(Turn::Ran(u)),

@@ -1,8 +1,9 @@
 // What a script asks of frames and transfers, and the end of a quantum.
-ghost use Rattle.std.specs.Prelude.{◌≡◌, ◌≤◌, ◌&&◌, None, OnErr, OnOk, drop, false, true};
+ghost use Rattle.std.specs.Prelude.{◌≡◌, ◌≤◌, ◌&&◌, [], ℕ, IsOkAnd, None, OnErr, OnOk, drop, false, true};
 ghost use Rattle.outside.specs.Faults.{Rose};
 ghost use Rattle.page_contracts.specs.Stores.{Evicts};
 ghost use Rattle.page_waits.specs.Acts.{Quiet};
+ghost use Rattle.page_waits.specs.InCore.{IsInCore};
 ghost use Rattle.page_waits.specs.Machines.{IsBare, KeepsMarks, auto, limit};
 ghost use Rattle.page_waits.specs.Systems.{StaysState};
 ghost use Rattle.page_waits.specs.Told.{MovesSilently};
@@ -26,7 +27,7 @@ impl<S: System> Machine<S> {
         self.system.evict(FrameId(frame));
     }
 
-    /// DRUM: the oldest transfers end, so many at most; all, where fewer are queued.
+    /// DRUM: the oldest transfers end, so many at most; all, where fewer are queued. Where none is, nothing changes.
     pub fn transfers<D: Drum>(&mut self, n: u32, drum: &mut D) -> Result<(), Failed>
         requires drum { limit self.old ≤ D.size drum.old }
         requires bare { IsBare self.old }
@@ -40,6 +41,10 @@ impl<S: System> Machine<S> {
         ensures silent { OnOk result (MovesSilently self.old.lists.sched self.new.lists.sched) }
         ensures bare { IsBare self.new }
         ensures marks { KeepsMarks self.old self.new }
+        ensures system { S.means.store.queue self.old.system ≡ [] → self.new.system ≡ self.old.system }
+        ensures lists { S.means.store.queue self.old.system ≡ [] → self.new.lists ≡ self.old.lists }
+        ensures drum { S.means.store.queue self.old.system ≡ [] → drum.new ≡ drum.old }
+        ensures core { (frames : ℕ) → IsInCore S.means frames self.old.system self.old.lists → IsOkAnd result (λ done. IsInCore S.means frames self.new.system self.new.lists) }
     {
         for _k in 0..n {
             match self.complete(drum) {
@@ -60,7 +65,7 @@ impl<S: System> Machine<S> {
         self.auto = on;
     }
 
-    /// Where a quantum has ended, and a run completes transfers by itself, the oldest transfer ends.
+    /// Where a quantum has ended, and a run completes transfers by itself, the oldest transfer ends. Where none is queued, nothing changes.
     pub fn end_quantum<D: Drum>(&mut self, ended: bool, drum: &mut D) -> Result<(), Failed>
         requires drum { limit self.old ≤ D.size drum.old }
         requires bare { IsBare self.old }
@@ -75,6 +80,10 @@ impl<S: System> Machine<S> {
         ensures silent { OnOk result (MovesSilently self.old.lists.sched self.new.lists.sched) }
         ensures bare { IsBare self.new }
         ensures marks { KeepsMarks self.old self.new }
+        ensures system { S.means.store.queue self.old.system ≡ [] → self.new.system ≡ self.old.system }
+        ensures lists { S.means.store.queue self.old.system ≡ [] → self.new.lists ≡ self.old.lists }
+        ensures drum { S.means.store.queue self.old.system ≡ [] → drum.new ≡ drum.old }
+        ensures core { (frames : ℕ) → IsInCore S.means frames self.old.system self.old.lists → IsOkAnd result (λ done. IsInCore S.means frames self.new.system self.new.lists) }
     {
         if ended && self.auto {
             self.transfers(1, drum)

@@ -1,8 +1,8 @@
-use Rattle.std.proofs.Common.{◌∙◌}
+use Rattle.std.proofs.Common.{◌≡◌, List, [], ◌∷◌, ◌∙◌, sym}
 use Rattle.page_waits.specs.Waits.{the_lists}
 use Rattle.page_waits.proofs.Awaiting.{awaited_told}
 use Rattle.page_waits.proofs.Silence.{told_more}
-use Rattle.page_waits.proofs.Staying.{state_then, seated_then}
+use Rattle.page_waits.proofs.Staying.{state_then, seated_then, there_then}
 use Rattle.page_waits.proofs.waking.tell.Goals as goal
 
 pub loop-need-preserved : goal.loop-need-preserved
@@ -16,4 +16,10 @@ loop-need-preserved g c =
       tied = λ forks t. c.wake.ensures.tied forks (i.tied forks t);
       holds = c.in-Some.ensures.tells.holds ∙ i.holds;
       members = c.in-Some.ensures.tells.stays.framed.members ∙ i.members;
+      there = there_then g.S.System.means.store c.args.system.now c.loop-need.system c.cancelled.new.self i.there c.in-Some.ensures.tells.stays;
+      queue = c.in-Some.ensures.tells.queue ∙ i.queue;
+      none = λ none. absurd (some_told (sym c.in-Some.ensures.tells.untold ∙ (i.none none).1));
     }
+  where
+    some_told : {A : Type 0} {x : A} {xs : List A} → x ∷ xs ≡ [] → ⊥
+    some_told e = cc e

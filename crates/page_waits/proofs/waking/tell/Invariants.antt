@@ -1,6 +1,7 @@
-use Rattle.std.proofs.Common.{◌≡◌, length}
+use Rattle.std.proofs.Common.{◌≡◌, [], length}
 use Rattle.plain_model.specs.Forks.{ForkMap}
 use Rattle.fork_lists.specs.Ties.{AreTied}
+use Rattle.page_contracts.specs.Stores.{StaysThere}
 use Rattle.page_waits.specs.Systems.{StaysState}
 use Rattle.page_waits.specs.Told.{AllTold}
 use Rattle.page_waits.specs.Waits.{AreAwaited, StaysSeated, the_lists}
@@ -15,6 +16,9 @@ invariant-loop-need g l = record {
   tied : (forks : ForkMap) → AreTied forks l.fn.lists → AreTied forks l.lists;
   holds : g.S.System.means.store.holds l.system ≡ g.S.System.means.store.holds l.fn.system;
   members : g.S.System.means.store.members l.system ≡ g.S.System.means.store.members l.fn.system;
+  there : StaysThere g.S.System.means.store l.fn.system l.system;
+  queue : g.S.System.means.store.queue l.system ≡ g.S.System.means.store.queue l.fn.system;
+  none : g.S.System.means.store.untold l.fn.system ≡ [] → (l.lists ≡ l.fn.lists) × (g.S.System.means.store.untold l.system ≡ []);
 }
 
 abbrev pub decreases-loop-need : goal.decreases-loop-need

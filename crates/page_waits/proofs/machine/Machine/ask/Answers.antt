@@ -1,4 +1,4 @@
-use Rattle.std.proofs.Common.{ℕ, ◌+◌, ◌≤◌, List, refl, sym, ◌∙◌, ap, subst, arith}
+use Rattle.std.proofs.Common.{⊎_elim, ℕ, ◌+◌, ◌≤◌, List, refl, sym, ◌∙◌, ap, subst, arith}
 use Rattle.std.specs.Prelude.{None, Some, Result, Ok, Err}
 use Rattle.event_deeds.specs.Deeds.{deed_of, entries_of}
 use Rattle.page_contracts.proofs.Losing.{can_fetch}
@@ -14,8 +14,10 @@ use Rattle.page_waits.specs.Waits.{AreAwaited, AreStanding, waits_with, the_list
 use Rattle.page_waits.proofs.Awaiting.{awaited_fewer, awaited_lost, awaited_same, standing_asked, awaited_asked}
 use Rattle.page_waits.proofs.Lists.{fewer_wait, member_below}
 use Rattle.page_waits.proofs.Holding.{all_let_go, all_lost, all_same, owned_of, released_of}
+use Rattle.page_waits.proofs.InCore.{core_kept, core_there, no_frame, none_needed}
 use Rattle.page_waits.proofs.Needing.{few_asked}
 use Rattle.page_waits.proofs.Quieting.{still_asked, told_asked}
+use Rattle.page_waits.proofs.Staying.{there_then}
 use Rattle.page_waits.proofs.machine.Machine.ask.Goals as goal
 
 -- what is needed first
@@ -138,3 +140,23 @@ returns-in-Err-clause-fewer g c n told is =
     (subst (λ m. told_work g.S.System.means the_lists c.args.deed.now (Some m) c.fetch.new.self c.args.self.now.lists ≤ told_work g.S.System.means the_lists c.args.deed.now None c.args.self.now.system c.args.self.now.lists) (sym c.fetch.ensures.answer ∙ ap need_in is)
     (told_asked g.S.System.means the_lists c.args.self.now.system c.deed.new.self c.fetch.new.self c.in-Err.need (deed_of c.args.deed.now) c.in-Err.ensures.needs c.fetch.ensures.fetched c.fetch.ensures.state c.args.self.now.lists c.args.deed.now
     (λ home page. c.in-Err.ensures.told home told (ap Err page))))
+
+pub returns-in-Ok-clause-calm : goal.returns-in-Ok-clause-calm
+returns-in-Ok-clause-calm g c frames d fits core which =
+    let store = g.S.System.means.store in
+    let done = core_kept g.S.System.means frames c.args.self.now.system c.deed.new.self c.args.self.now.lists c.deed.new.lists core c.in-Ok.ensures.did.loses c.in-Ok.ensures.waits in
+    let gone = c.let_go.ensures.lets_go in
+    let left = c.release_left.ensures in
+    core_there g.S.System.means frames c.deed.new.self c.release_left.new.system c.deed.new.lists c.tell.new.lists done
+    (there_then store c.deed.new.self c.let_go.new.self c.release_left.new.system gone.stays (there_then store c.let_go.new.self c.tell.new.system c.release_left.new.system c.tell.ensures.there left.there))
+    (left.queued.queue ∙ c.tell.ensures.queue ∙ gone.queued.queue) (left.queued.untold ∙ c.tell.ensures.told)
+    (ap (λ (l : ForkLists). l.sched.waiting) (c.tell.ensures.none (gone.queued.untold ∙ done.told)))
+
+pub returns-in-Err-clause-calm : goal.returns-in-Err-clause-calm
+returns-in-Err-clause-calm g c frames d fits core which =
+    let old = c.args.self.now.system in
+    let x = deed_of c.args.deed.now in
+    let housed = g.met.S.System.housed old in
+    none_needed g.S.System.means frames x old c.deed.new.self c.args.self.now.lists c.in-Err.need core c.in-Err.ensures.needs
+    (⊎_elim (λ part. λ is. c.in-Err.ensures.unframed part (ap Err is))
+    (λ roomy. no_frame g.S.System.means frames x old c.deed.new.self c.args.self.now.lists c.in-Err.need core c.in-Err.ensures.needs d housed.sound (g.met.S.System.lives old d fits) roomy) which)

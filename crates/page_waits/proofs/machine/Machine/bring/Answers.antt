@@ -1,7 +1,12 @@
-use Rattle.std.proofs.Common.{◌≡◌, ◌+◌, ◌-◌, ◌∙◌, refl, sym, subst, arith}
+use Rattle.std.proofs.Common.{◌≡◌, ◌⊎◌, ℕ, ◌+◌, ◌-◌, ◌∙◌, refl, sym, subst, arith}
 use Rattle.std.specs.Prelude.{None, Some}
+use Rattle.event_deeds.specs.Deeds.{IsNext}
+use Rattle.page_contracts.specs.DrumWords.{DrumWords}
 use Rattle.page_waits.specs.Acts.{Quiet}
 use Rattle.page_waits.specs.Waits.{the_lists}
+use Rattle.page_waits.specs.Calm.{IsRoomy}
+use Rattle.page_waits.specs.InCore.{IsInCore}
+use Rattle.page_waits.proofs.InCore.{from_calm}
 use Rattle.page_waits.proofs.Marks.{marks_then}
 use Rattle.plain_model.specs.Moves.{moves}
 use Rattle.plain_model.specs.Trees.{PlainTree}
@@ -10,7 +15,7 @@ use Rattle.fork_lists.specs.declared.lists.ForkLists.{ForkLists}
 use Rattle.page_waits.specs.Told.{AllTold, MovesSilently}
 use Rattle.page_waits.proofs.Silence.{deed_behind, silent_then}
 use Rattle.page_waits.proofs.Staying.{told_then}
-use Rattle.page_waits.proofs.Quieting.{quiet_then, spent}
+use Rattle.page_waits.proofs.Quieting.{quiet_still, quiet_then, spent}
 use Rattle.page_waits.proofs.machine.Machine.bring.Goals as goal
 
 pub returns-then-left-eq0-clause-spent : goal.returns-then-left-eq0-clause-spent
@@ -37,6 +42,8 @@ loop-waits-preserved g c =
       silent = silent_then c.args.self.now.lists.sched c.loop-waits.self.lists.sched c.complete_for.new.self.lists.sched i.silent (c.in-Ok-complete_for.ensures.silent c.in-Ok-complete_for.after refl);
       within = λ n w. (c.in-Ok-complete_for.ensures.quiet c.in-Ok-complete_for.after (Some c.args.deed.now) refl).told.within n (i.within n w);
       marks = marks_then c.args.self.now c.loop-waits.self c.complete_for.new.self i.marks c.complete_for.ensures.marks;
+      calm = λ frames d fits core which. absurd (let none : None ≡ Some c.in-Some.need = sym (i.first frames d fits core which) ∙ c.in-Some.is in cc none);
+      first = λ frames d fits core which. absurd (let none : None ≡ Some c.in-Some.need = sym (i.first frames d fits core which) ∙ c.in-Some.is in cc none);
     }
 
 pub returns-in-Ok-clause-took : goal.returns-in-Ok-clause-took
@@ -50,3 +57,43 @@ returns-then-left-eq0-clause-silent g c is = subst (λ (l : ForkLists). MovesSil
 
 pub returns-then-left-eq0-clause-kept : goal.returns-then-left-eq0-clause-kept
 returns-then-left-eq0-clause-kept g c is = told_then g.S.System.means c.args.self.now.system c.loop-waits.self.system c.release.new.self.system c.loop-waits.invariant.quiet.told c.release.ensures.told
+
+pub returns-in-Ok-clause-calm : goal.returns-in-Ok-clause-calm
+returns-in-Ok-clause-calm g c frames d fits core which =
+    let old = c.args.self.now in
+    let mid = c.loop-waits.self in
+    from_calm g.S.System.means (λ n s. IsNext c.args.deed.now ⊎ IsRoomy n s) old.system mid.system old.lists mid.lists c.loop-waits.invariant.calm frames d fits core which
+    (λ t m. IsInCore g.S.System.means frames c.ask.new.self.system c.ask.new.self.lists) (λ f k r. c.in-Ok.ensures.calm frames d f k r)
+
+pub loop-waits-preserved-in-Err : goal.loop-waits-preserved-in-Err
+loop-waits-preserved-in-Err g c =
+    let means = g.S.System.means in
+    let i = c.loop-waits.invariant in
+    let old = c.args.self.now in
+    let mid = c.loop-waits.self in
+    let new = c.ask.new.self in
+    let need = c.in-Err.need in
+    let still = c.in-Err.ensures.still need refl in
+    let before = subst (λ w. Quiet means the_lists g.D.Drum.held (Some c.args.deed.now) None w (4294967296 - c.loop-waits.left) old.system mid.system old.lists mid.lists c.args.drum.now c.loop-waits.drum) c.in-None.is i.quiet in
+    let done = λ (frames : ℕ) (d : DrumWords) (fits : means.fits old.system d) (core : IsInCore means frames old.system old.lists) (which : IsNext c.args.deed.now ⊎ IsRoomy frames (means.plain old.system d)).
+    from_calm means (λ n s. IsNext c.args.deed.now ⊎ IsRoomy n s) old.system mid.system old.lists mid.lists i.calm frames d fits core which (λ t m. ⊥) (λ f k r. c.in-Err.ensures.calm frames d f k r) in
+    record {
+      few = i.few;
+      quiet = quiet_still means the_lists g.D.Drum.held (Some c.args.deed.now) None None (Some need) (4294967296 - c.loop-waits.left) old.system mid.system new.system old.lists mid.lists new.lists c.args.drum.now c.loop-waits.drum before still;
+      awaited = c.in-Err.ensures.awaited need refl;
+      later = i.later;
+      size = i.size;
+      reads = i.reads;
+      writes = i.writes;
+      within = λ n w. still.told.within n (i.within n w);
+      silent = subst (λ (l : ForkLists). MovesSilently old.lists.sched l.sched) (sym (c.in-Err.ensures.stays need refl)) i.silent;
+      marks = marks_then old mid new i.marks (record { limit = c.ask.ensures.limit; auto = c.ask.ensures.mark });
+      calm = λ frames d fits core which. absurd (done frames d fits core which);
+      first = λ frames d fits core which. absurd (done frames d fits core which);
+    }
+
+pub returns-then-left-eq0-clause-calm : goal.returns-then-left-eq0-clause-calm
+returns-then-left-eq0-clause-calm g c frames d fits core which = absurd (let none : None ≡ Some c.in-Some.need = sym (c.loop-waits.invariant.first frames d fits core which) ∙ c.in-Some.is in cc none)
+
+pub returns-then-left-eq0-clause-answers : goal.returns-then-left-eq0-clause-answers
+returns-then-left-eq0-clause-answers g c frames d fits core which = let none : None ≡ Some c.in-Some.need = sym (c.loop-waits.invariant.first frames d fits core which) ∙ c.in-Some.is in cc none

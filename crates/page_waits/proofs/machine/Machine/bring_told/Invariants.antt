@@ -1,9 +1,14 @@
-use Rattle.std.proofs.Common.{◌≡◌, ℕ, ◌+◌, ◌≤◌, cond, is_some}
+use Rattle.std.proofs.Common.{◌≡◌, ◌⊎◌, ℕ, ◌+◌, ◌≤◌, cond, is_some}
 use Rattle.std.specs.Prelude.{None, Some}
+use Rattle.event_deeds.specs.Deeds.{IsNext}
+use Rattle.page_contracts.specs.DrumWords.{DrumWords}
 use Rattle.page_waits.specs.Acts.{Quiet, told_work}
+use Rattle.page_waits.specs.Calm.{IsRoomy}
+use Rattle.page_waits.specs.InCore.{IsInCore}
 use Rattle.page_waits.specs.Machines.{KeepsMarks}
 use Rattle.page_waits.specs.Told.{MovesSilently}
 use Rattle.page_waits.specs.Waits.{AreAwaited, waits_with, the_lists}
+use Rattle.page_waits.proofs.InCore.{Untouched}
 use Rattle.page_waits.proofs.machine.Machine.bring_told.Given as goal
 
 abbrev pub invariant-loop-waits : goal.invariant-loop-waits
@@ -17,6 +22,9 @@ invariant-loop-waits g l = record {
   within : (n : ℕ) → g.S.System.means.within l.fn.self.system n → g.S.System.means.within l.self.system n;
   silent : MovesSilently l.fn.self.lists.sched l.self.lists.sched;
   marks : KeepsMarks l.fn.self l.self;
+  calm : Untouched g.S.System.means (λ frames s. IsNext l.deed ⊎ IsRoomy frames s) l.fn.self.system l.self.system l.fn.self.lists l.self.lists;
+  first : (frames : ℕ) (d : DrumWords) → g.S.System.means.fits l.fn.self.system d → IsInCore g.S.System.means frames l.fn.self.system l.fn.self.lists
+      → IsNext l.deed ⊎ IsRoomy frames (g.S.System.means.plain l.fn.self.system d) → l.waits ≡ None;
 }
 
 abbrev pub decreases-loop-waits : goal.decreases-loop-waits

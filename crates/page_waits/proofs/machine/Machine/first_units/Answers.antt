@@ -1,10 +1,14 @@
 use Rattle.std.proofs.Common.{ℕ, ◌∙◌, subst}
-use Rattle.std.specs.Prelude.{None, Option}
+use Rattle.std.specs.Prelude.{IsSomeAnd, None, Option}
 use Rattle.machine_names.specs.declared.names.ForkName.{ForkName}
 use Rattle.plain_model.specs.Trees.{PlainTree}
+use Rattle.page_waits.specs.Calm.{IsRoomy}
 use Rattle.page_waits.specs.Holders.{AreReleased}
+use Rattle.page_waits.specs.InCore.{RanCalmly}
 use Rattle.page_waits.specs.Told.{TookRow}
 use Rattle.page_waits.specs.Waits.{the_lists}
+use Rattle.page_waits.specs.declared.turn.Done.{Done}
+use Rattle.page_waits.proofs.InCore.{from_calm}
 use Rattle.page_waits.proofs.Quieting.{still_then}
 use Rattle.page_waits.proofs.Silence.{row_behind, silent_then}
 use Rattle.page_waits.proofs.machine.Machine.first_units.Goals as goal
@@ -36,4 +40,15 @@ loop-head-preserved g c =
       within = λ n w. still.told.within n (i.within n w);
       limit = c.plan.ensures.limit ∙ i.limit;
       bare = c.plan.ensures.bare;
+      calm = λ frames d fits core roomy.
+          absurd (from_calm g.S.System.means IsRoomy old.system mid.system old.lists mid.lists i.calm frames d fits core roomy (λ t m. ⊥)
+          (λ f k r. subst (λ (o : Option Done). IsSomeAnd o (λ u. RanCalmly g.S.System.means frames u mid.system new.system mid.lists new.lists)) none (c.plan.ensures.calm frames d f k r)));
     }
+
+pub returns-in-Some-plan-clause-calm : goal.returns-in-Some-plan-clause-calm
+returns-in-Some-plan-clause-calm g c frames d fits core roomy =
+    let old = c.args.self.now in
+    let mid = c.loop-head.self in
+    let new = c.plan.new.self in
+    from_calm g.S.System.means IsRoomy old.system mid.system old.lists mid.lists c.loop-head.invariant.calm frames d fits core roomy
+    (λ t m. RanCalmly g.S.System.means frames c.in-Some-plan.u t new.system m new.lists) (λ f k r. c.in-Some-plan.ensures.calm frames d f k r)

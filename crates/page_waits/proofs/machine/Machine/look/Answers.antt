@@ -4,12 +4,15 @@ use Rattle.std.proofs.lemmas.Bool.Decides.{nat_tests}
 use Rattle.machine_names.specs.declared.names.ForkName.{ForkName}
 use Rattle.plain_model.specs.Trees.{PlainTree}
 use Rattle.page_waits.specs.Acts.{IdledOver, Quiet}
+use Rattle.page_waits.specs.Calm.{IsRoomy}
 use Rattle.page_waits.specs.Holders.{AreReleased}
+use Rattle.page_waits.specs.InCore.{RanCalmly}
 use Rattle.page_waits.specs.Idling.{Counts, Moved}
 use Rattle.fork_lists.specs.declared.lists.ForkLists.{ForkLists}
 use Rattle.page_waits.specs.Told.{MovesSilently, TookRow}
 use Rattle.page_waits.specs.Waits.{the_lists}
 use Rattle.page_waits.proofs.Idle.{nobody_runs}
+use Rattle.page_waits.proofs.InCore.{from_calm, from_idle, still_idle}
 use Rattle.page_waits.proofs.Marks.{marks_then}
 use Rattle.page_waits.proofs.Moving.{moved_then}
 use Rattle.page_waits.proofs.Quieting.{ran_quiet, quiet_still, quiet_then, idle_spent, idle_quiet}
@@ -110,7 +113,42 @@ loop-u-preserved g c =
       within = λ n w. quiet.told.within n (still.told.within n (i.within n w));
       marks = marks_then old mid new i.marks (marks_then mid planned new (record { limit = c.first_units.ensures.limit; auto = c.first_units.ensures.mark }) c.complete.ensures.marks);
       bare = c.complete.ensures.bare c.first_units.ensures.bare;
+      calm = λ frames d fits core roomy.
+          let idled = from_idle means IsRoomy old.system mid.system old.lists mid.lists i.calm frames d fits core roomy planned.system planned.lists c.first_units.result (c.first_units.ensures.calm frames d) none in
+          absurd (cc (c.in-Done.ensures.empty (still_idle means frames old.system planned.system old.lists planned.lists core idled)));
     }
   where
     on : {b : Bool} → true ≡ b → b ≡ false → ⊥
     on e f = cc (e ∙ f)
+
+pub returns-in-Some-clause-calm : goal.returns-in-Some-clause-calm
+returns-in-Some-clause-calm g c frames d fits core roomy =
+    let old = c.args.self.now in
+    let mid = c.loop-u.self in
+    let new = c.first_units.new.self in
+    from_calm g.S.System.means IsRoomy old.system mid.system old.lists mid.lists c.loop-u.invariant.calm frames d fits core roomy
+    (λ t m. RanCalmly g.S.System.means frames c.in-Some.u t new.system m new.lists) (λ f k r. c.in-Some.ensures.calm frames d f k r)
+
+pub returns-then-not-self-clause-calm : goal.returns-then-not-self-clause-calm
+returns-then-not-self-clause-calm g c frames d fits core roomy =
+    let old = c.args.self.now in
+    let mid = c.loop-u.self in
+    let new = c.first_units.new.self in
+    from_idle g.S.System.means IsRoomy old.system mid.system old.lists mid.lists c.loop-u.invariant.calm frames d fits core roomy new.system new.lists c.first_units.result (c.first_units.ensures.calm frames d) c.in_default.is
+
+pub returns-in-Nothing-clause-calm : goal.returns-in-Nothing-clause-calm
+returns-in-Nothing-clause-calm g c frames d fits core roomy =
+    let old = c.args.self.now in
+    let mid = c.loop-u.self in
+    let planned = c.first_units.new.self in
+    let idled = from_idle g.S.System.means IsRoomy old.system mid.system old.lists mid.lists c.loop-u.invariant.calm frames d fits core roomy planned.system planned.lists c.first_units.result (c.first_units.ensures.calm frames d) c.in_default.is in
+    record { nobody = idled.nobody; system = c.in-Nothing.ensures.system refl ∙ idled.system; lists = c.in-Nothing.ensures.lists refl ∙ idled.lists }
+
+pub returns-in-DrumFault-clause-calm : goal.returns-in-DrumFault-clause-calm
+returns-in-DrumFault-clause-calm g c frames d fits core roomy =
+    let means = g.S.System.means in
+    let old = c.args.self.now in
+    let mid = c.loop-u.self in
+    let planned = c.first_units.new.self in
+    let idled = from_idle means IsRoomy old.system mid.system old.lists mid.lists c.loop-u.invariant.calm frames d fits core roomy planned.system planned.lists c.first_units.result (c.first_units.ensures.calm frames d) c.in_default.is in
+    cc (c.in-DrumFault.ensures.empty (still_idle means frames old.system planned.system old.lists planned.lists core idled))

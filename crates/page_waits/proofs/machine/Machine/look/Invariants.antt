@@ -1,10 +1,12 @@
 use Rattle.std.proofs.Common.{◌≡◌, ℕ, ◌-◌, ◌≤◌}
 use Rattle.std.specs.Prelude.{None, false}
 use Rattle.page_waits.specs.Acts.{Quiet}
+use Rattle.page_waits.specs.Calm.{IsRoomy}
 use Rattle.page_waits.specs.Idling.{Moved}
 use Rattle.page_waits.specs.Machines.{IsBare, KeepsMarks, auto}
 use Rattle.page_waits.specs.Told.{MovesSilently}
 use Rattle.page_waits.specs.Waits.{the_lists}
+use Rattle.page_waits.proofs.InCore.{Untouched}
 use Rattle.page_waits.proofs.machine.Machine.look.Given as goal
 
 abbrev pub invariant-loop-u : goal.invariant-loop-u
@@ -22,6 +24,7 @@ invariant-loop-u g l = record {
   within : (n : ℕ) → g.S.System.means.within l.fn.self.system n → g.S.System.means.within l.self.system n;
   marks : KeepsMarks l.fn.self l.self;
   bare : IsBare l.self;
+  calm : Untouched g.S.System.means IsRoomy l.fn.self.system l.self.system l.fn.self.lists l.self.lists;
 }
 
 abbrev pub decreases-loop-u : goal.decreases-loop-u

@@ -1,3 +1,4 @@
+use Rattle.fork_lists.specs.Following.{last_counted}
 use Rattle.job_sched.specs.Schedules.{Schedule, waited}
 use Rattle.job_sched.specs.Units.{row_ran}
 use Rattle.plain_model.specs.Moves.{moves}
@@ -14,6 +15,7 @@ use Rattle.page_waits.proofs.Lists.{are_lists, fewer_wait, member_below}
 use Rattle.page_contracts.proofs.Losing.{can_fetch}
 use Rattle.page_contracts.specs.Stores.{traffic}
 use Rattle.page_waits.proofs.Holding.{all_lost, released_of}
+use Rattle.page_waits.proofs.InCore.{core_kept, no_frame, none_needed}
 use Rattle.page_waits.proofs.Silence.{silent_nil, silent_wait}
 use Rattle.page_waits.proofs.Needing.{few_free}
 use Rattle.page_waits.proofs.Quieting.{still_begun}
@@ -129,3 +131,23 @@ returns-in-Err-clause-silent g c is =
 
 pub returns-in-Err-clause-seated : goal.returns-in-Err-clause-seated
 returns-in-Err-clause-seated g c is = (subst (λ (l : ForkLists). Waits the_lists c.args.head c.fetch-awaited.result l c.wait.new.lists) c.in-Err.ensures.stays c.wait.ensures.waits).seated.member
+
+pub returns-in-Ok-clause-calm : goal.returns-in-Ok-clause-calm
+returns-in-Ok-clause-calm g c frames d fits core roomy =
+    let forks = (g.S.System.means.tree c.args.self.now.system).forks in
+    let row = row_ran (c.in-Ok.progress.count - 1) c.args.self.now.lists.sched in
+    let behind = core_kept g.S.System.means frames c.args.self.now.system c.units.new.self c.args.self.now.lists c.units.new.lists core c.in-Ok.ensures.did.loses c.in-Ok.ensures.waits in
+    record {
+      head = c.requires.heads;
+      lists =
+          c.finish-ended.ensures.calm frames behind
+          ∙ ap (last_counted c.args.head.fork) (c.in-Ok.ensures.moved ∙ ap (λ (t : PlainTree). moved (moves forks t.forks) row) (sym c.finish-ended.ensures.state.told.tree));
+      core = c.finish-ended.ensures.core frames behind;
+    }
+
+pub returns-in-Err-clause-calm : goal.returns-in-Err-clause-calm
+returns-in-Err-clause-calm g c frames d fits core roomy =
+    let old = c.args.self.now.system in
+    let housed = g.met.S.System.housed old in
+    none_needed g.S.System.means frames (unit_of c.args.head.fork) old c.units.new.self c.args.self.now.lists c.in-Err.need core c.in-Err.ensures.needs
+    (no_frame g.S.System.means frames (unit_of c.args.head.fork) old c.units.new.self c.args.self.now.lists c.in-Err.need core c.in-Err.ensures.needs d housed.sound (g.met.S.System.lives old d fits) roomy)

@@ -1,4 +1,4 @@
-use Rattle.std.proofs.Common.{◌≡◌, ◌≤◌}
+use Rattle.std.proofs.Common.{◌≡◌, ◌≤◌, []}
 use Rattle.std.specs.Prelude.{None, drop}
 use Rattle.page_waits.specs.Acts.{Quiet}
 use Rattle.page_waits.specs.Machines.{IsBare, KeepsMarks}
@@ -17,4 +17,5 @@ invariant-loop-k g l = record {
   oldest : g.S.System.means.store.queue l.self.system ≡ drop l._k (g.S.System.means.store.queue l.fn.self.system);
   bare : IsBare l.self;
   marks : KeepsMarks l.fn.self l.self;
+  same : g.S.System.means.store.queue l.fn.self.system ≡ [] → (l.self.system ≡ l.fn.self.system) × (l.self.lists ≡ l.fn.self.lists) × (l.drum ≡ l.fn.drum);
 }

@@ -3,12 +3,16 @@ use Rattle.std.specs.Prelude.{◌==◌, Option}
 use Rattle.std.proofs.lemmas.Bool.Decides.{nat_tests}
 use Rattle.plain_model.specs.Trees.{PlainTree}
 use Rattle.fork_lists.specs.Following.{last_counted}
+use Rattle.job_sched.specs.Schedules.{Schedule}
 use Rattle.fork_lists.specs.Ties.{AreTied}
+use Rattle.fork_lists.specs.declared.lists.ForkLists.{ForkLists}
 use Rattle.page_contracts.specs.declared.answers.Need.{Need}
 use Rattle.page_waits.specs.Told.{ends_quantum}
 use Rattle.page_waits.specs.Waits.{AreAwaited, the_lists}
 use Rattle.page_waits.proofs.Awaiting.{awaited_same}
 use Rattle.page_waits.proofs.Holding.{all_let_go, all_same, owned_of}
+use Rattle.page_waits.proofs.InCore.{core_there, counted_waiting}
+use Rattle.page_waits.proofs.Staying.{there_then}
 use Rattle.page_waits.proofs.machine.looking.finish.Goals as goal
 
 pub release_left-requires-clause-all : goal.release_left-requires-clause-all
@@ -63,3 +67,17 @@ returns-clause-bare g c none =
     by : (b : Bool) → cond b [] (g.S.System.means.store.holds c.args.system.now 63) ≡ []
     by true = refl
     by false = none
+
+pub returns-clause-calm : goal.returns-clause-calm
+returns-clause-calm g c frames core =
+    c.count_last-ended.ensures.schedule ∙ ap (λ (l : ForkLists). last_counted c.args.head.fork l.sched) (c.tell.ensures.none (c.let_go.ensures.lets_go.queued.untold ∙ core.told))
+
+pub returns-clause-core : goal.returns-clause-core
+returns-clause-core g c frames core =
+    let store = g.S.System.means.store in
+    let gone = c.let_go.ensures.lets_go in
+    let left = c.release_left.ensures in
+    core_there g.S.System.means frames c.args.system.now c.release_left.new.system c.args.lists.now c.count_last-ended.new.lists core
+    (there_then store c.args.system.now c.let_go.new.self c.release_left.new.system gone.stays (there_then store c.let_go.new.self c.tell.new.system c.release_left.new.system c.tell.ensures.there left.there))
+    (left.queued.queue ∙ c.tell.ensures.queue ∙ gone.queued.queue) (left.queued.untold ∙ c.tell.ensures.told)
+    (ap (λ (s : Schedule). s.waiting) c.count_last-ended.ensures.schedule ∙ counted_waiting c.args.head.fork c.tell.new.lists.sched ∙ ap (λ (l : ForkLists). l.sched.waiting) (c.tell.ensures.none (gone.queued.untold ∙ core.told)))
