@@ -4,8 +4,8 @@ pub mod GivenParts
 mod ForksShown
 mod Listed
 pub mod Runnable
-mod PassedOver
-mod RowPassed
+pub mod PassedOver
+pub mod RowPassed
 pub mod StepDid
 mod TurnsPassed
 pub mod Typed

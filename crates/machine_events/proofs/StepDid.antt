@@ -85,12 +85,12 @@ did_one m m' step reply can did = record {
 }
 
 -- idle entries leave a state, and show nothing
-record Idles (s : PlainState) (n : ℕ) : Type 0 where
-  state : state_after s (replicate n Idle) ≡ s
-  items : items_of s (replicate n Idle) ≡ []
-  legal : AreLegal true s (replicate n Idle)
+pub record Idles (s : PlainState) (n : ℕ) : Type 0 where
+  pub state : state_after s (replicate n Idle) ≡ s
+  pub items : items_of s (replicate n Idle) ≡ []
+  pub legal : AreLegal true s (replicate n Idle)
 
-all_idle : (s : PlainState) (n : ℕ) → IsLegalStep true s Idle → Idles s n
+pub all_idle : (s : PlainState) (n : ℕ) → IsLegalStep true s Idle → Idles s n
 all_idle s zero none = record { state = refl; items = refl; legal = tt }
 all_idle s (suc n) none =
     let rest = all_idle s n none in

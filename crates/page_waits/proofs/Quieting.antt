@@ -11,10 +11,11 @@ use Rattle.page_contracts.specs.declared.answers.Need.TheVariants.{Page, Frame}
 use Rattle.script_texts.specs.declared.event.Step.TheVariants.{Idle as AnIdle}
 use Rattle.event_deeds.specs.Deeds.{Task, deed_of, unit_of}
 use Rattle.event_deeds.specs.declared.deed.Deed.{Deed}
-use Rattle.plain_model.specs.Forks.{IsRunnable}
+use Rattle.plain_model.specs.Forks.{IsRunnable, runs_in}
 use Rattle.page_contracts.specs.DrumWords.{DrumWords}
 use Rattle.plain_model.specs.Run.{AreLegal, apply, items_of, state_after}
 use Rattle.plain_model.specs.State.{PlainState}
+use Rattle.plain_model.specs.Trees.{PlainTree}
 use Rattle.page_contracts.specs.Stores.{place, is_here, Transfer, arrival, departure, home_of, is_arrival, arrives, need_of, Meeting, joins, begins, waits, meeting, awaited, queued, departure_of, IsFetched, Ends, StaysQueued, StaysThere, most_held}
 use Rattle.page_waits.specs.declared.head.Head.{Head}
 use Rattle.step_shown.specs.declared.progress.Progress.{Progress}
@@ -70,6 +71,9 @@ module _ {S L : Type 0} (means : SystemMeaning S) (lists : ListsMeaning L) where
           y.3 ∙ ap (λ p. items_of p (row_of f done.count)) same,
           y.4,
         );
+    runs = λ d fits k small g.
+        let x = (still.each d fits).0 in
+        ap (λ p. runs_in (state_after p (row_of f k)).forks g) (sym x.plain) ∙ ran.runs d x.fits k small g ∙ ap (λ (t : PlainTree). runs_in t.forks g) still.told.tree;
   }
 
   module _ {D : Type 0} (held : D → Option DrumWords) where
@@ -118,6 +122,9 @@ module _ {S L : Type 0} (means : SystemMeaning S) (lists : ListsMeaning L) where
             y.3 ∙ ap (λ p. items_of p (row_of f done.count)) same,
             y.4,
           );
+      runs = λ d st fits k small g.
+          let x = quiet.each d st fits in
+          ap (λ p. runs_in (state_after p (row_of f k)).forks g) (sym x.2.plain) ∙ ran.runs x.0 x.2.fits k small g ∙ ap (λ (t : PlainTree). runs_in t.forks g) quiet.told.tree;
     }
 
     -- no unit can be done, and nobody can run

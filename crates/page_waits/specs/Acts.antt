@@ -1,11 +1,12 @@
 -- What transfers and plans leave of the plain state, and how much is left to do.
-use Rattle.std.specs.Prelude.{◌≡◌, ℕ, ◌+◌, ◌≤◌, List, [], Bool, true, Option, None, Some, ◌==◌, ◌||◌, if◌then◌else◌, replicate}
+use Rattle.std.specs.Prelude.{◌≡◌, ℕ, ◌+◌, ◌<◌, ◌≤◌, List, [], Bool, true, Option, None, Some, ◌==◌, ◌||◌, if◌then◌else◌, replicate}
 use Rattle.machine_names.specs.Bounds.{IsForkName}
 use Rattle.machine_names.specs.declared.names.ForkName.{ForkName}
 use Rattle.script_texts.specs.declared.event.Step.TheVariants.{Idle as AnIdle}
 use Rattle.page_contracts.specs.declared.answers.Need.{Need}
 use Rattle.page_contracts.specs.declared.store.TheConstants.{CONSOLE_HOLDER, MOST_HOLDERS}
 use Rattle.page_contracts.specs.DrumWords.{DrumWords, Stands}
+use Rattle.plain_model.specs.Forks.{runs_in}
 use Rattle.plain_model.specs.Run.{AreLegal, items_of, state_after}
 use Rattle.event_deeds.specs.declared.deed.Deed.{Deed}
 use Rattle.event_deeds.specs.Deeds.{Task, deed_of, entries_of, unit_of}
@@ -67,7 +68,8 @@ module _ {S L : Type 0} (means : SystemMeaning S) (lists : ListsMeaning L) where
     pub each : (d : DrumWords) → Stands means.store.flat (held drum) d → means.fits s d
         → (e : DrumWords) × Stands means.store.flat (held drum') e × SameOver means s s' d e × (work x w' s' l' e + less ≤ work x w s l d)
 
-  -- units of a fork were done in a row: over each drum that fits they are legal, the plain state is the one that they leave, and the reply, which can be given, is what they show
+  -- Units of a fork were done in a row: over each drum that fits they are legal, the plain state is the one that they leave, and the reply, which can be given, is what they show;
+  -- and up to the last of them the same forks can run.
   pub record Ran (f : ForkName) (done : Progress) (s s' : S) : Type 0 where
     pub named : IsForkName f
     pub shown : FitsShowing (showing.Reply done.reply)
@@ -76,6 +78,7 @@ module _ {S L : Type 0} (means : SystemMeaning S) (lists : ListsMeaning L) where
     pub each : (d : DrumWords) → means.fits s d
         → means.fits s' d × AreLegal true (means.plain s d) (row_of f done.count) × (means.plain s' d ≡ state_after (means.plain s d) (row_of f done.count))
         × (means.items (means.plain s' d) (showing.Reply done.reply) ≡ items_of (means.plain s d) (row_of f done.count)) × means.gives s' d (showing.Reply done.reply)
+    pub runs : (d : DrumWords) → means.fits s d → (k : ℕ) → k < done.count → (g : ForkName) → runs_in (state_after (means.plain s d) (row_of f k)).forks g ≡ runs_in (means.tree s).forks g
 
   -- the same over what a drum told and tells
   pub record RanOver {D : Type 0} (held : D → Option DrumWords) (f : ForkName) (done : Progress) (s s' : S) (drum drum' : D) : Type 0 where
@@ -86,6 +89,7 @@ module _ {S L : Type 0} (means : SystemMeaning S) (lists : ListsMeaning L) where
         → (e : DrumWords) × Stands means.store.flat (held drum') e × means.fits s' e × AreLegal true (means.plain s d) (row_of f done.count)
         × (means.plain s' e ≡ state_after (means.plain s d) (row_of f done.count)) × (means.items (means.plain s' e) (showing.Reply done.reply) ≡ items_of (means.plain s d) (row_of f done.count))
         × means.gives s' e (showing.Reply done.reply)
+    pub runs : (d : DrumWords) → Stands means.store.flat (held drum) d → means.fits s d → (k : ℕ) → k < done.count → (g : ForkName) → runs_in (state_after (means.plain s d) (row_of f k)).forks g ≡ runs_in (means.tree s).forks g
 
   -- So many idle entries stand, since no unit can be done: each is legal, where idle entries are judged by this mark, and they leave the plain state as it is.
   pub record IdledOver {D : Type 0} (held : D → Option DrumWords) (auto : Bool) (count : ℕ) (s s' : S) (drum drum' : D) : Type 0 where

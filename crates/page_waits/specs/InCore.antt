@@ -3,7 +3,7 @@ use Rattle.std.specs.Prelude.{◌≡◌, ℕ, ◌-◌, [], true}
 use Rattle.fork_lists.specs.declared.lists.ForkLists.{ForkLists}
 use Rattle.fork_lists.specs.Following.{last_counted}
 use Rattle.job_sched.specs.Schedules.{heads}
-use Rattle.job_sched.specs.Units.{row_ran}
+use Rattle.job_sched.specs.Units.{IsRow, row_ran}
 use Rattle.page_contracts.specs.Stores.{away, place}
 use Rattle.plain_model.specs.Moves.{moves}
 use Rattle.turn_forms.specs.Turns.{moved}
@@ -21,9 +21,11 @@ module _ {S : Type 0} (means : SystemMeaning S) where
     pub told : means.store.untold s ≡ []
     pub none : l.sched.waiting ≡ []
 
-  -- units of the head of the ready list: all but the last are counted before the lists follow the forks, and the last behind; and all is in core still
+  -- Units of the head of the ready list, which is alone or has them left of its quantum: all but the last are counted before the lists follow the forks, and the last behind;
+  -- and all is in core still.
   pub record RanCalmly (frames : ℕ) (row : Done) (s s' : S) (l l' : ForkLists) : Type 0 where
     pub head : heads row.fork l.sched.ready ≡ true
+    pub within : IsRow row.progress.count l.sched
     pub lists : l'.sched ≡ last_counted row.fork (moved (moves (means.tree s).forks (means.tree s').forks) (row_ran (row.progress.count - 1) l.sched))
     pub core : IsInCore frames s' l'
 

@@ -18,6 +18,10 @@ module _ {S : Type 0} {b : _} where
   abbrev pub limit : Machine S b → ℕ
   limit m = b.means.limit m.system
 
+  -- how many frames there are
+  abbrev pub frames : Machine S b → ℕ
+  frames m = b.means.store.frames m.system
+
   -- the AUTO mark
   abbrev pub auto : Machine S b → Bool
   auto m = m.auto
@@ -26,7 +30,8 @@ module _ {S : Type 0} {b : _} where
   abbrev pub IsBare : Machine S b → Type 0
   IsBare m = b.means.store.holds m.system CONSOLE_HOLDER ≡ []
 
-  -- as many pages may live, and the AUTO mark is the same
+  -- as many pages may live, as many frames are there, and the AUTO mark is the same
   pub record KeepsMarks (old new : Machine S b) : Type 0 where
     pub limit : limit new ≡ limit old
+    pub frames : frames new ≡ frames old
     pub auto : auto new ≡ auto old

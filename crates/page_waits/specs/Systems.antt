@@ -1,5 +1,5 @@
 -- What the clauses say of a system: the pages, the jobs with their forks, the files and the clock, of which a part is in core.
-use Rattle.std.specs.Prelude.{◌≡◌, ℕ, ◌+◌, ◌≤◌, List, length, true, false, IfSome, Option, replicate}
+use Rattle.std.specs.Prelude.{◌≡◌, ℕ, ◌+◌, ◌<◌, ◌≤◌, List, length, true, false, IfSome, Option, replicate}
 use Rattle.machine_names.specs.Bounds.{IsForkName, IsTerminal}
 use Rattle.machine_names.specs.declared.names.ForkName.{ForkName}
 use Rattle.script_texts.specs.declared.event.Item.{Item}
@@ -11,6 +11,7 @@ use Rattle.page_contracts.specs.declared.store.TheConstants.{MOST_HELD, MOST_HEL
 use Rattle.page_homes.specs.declared.homes.Home.{Home}
 use Rattle.page_contracts.specs.DrumWords.{DrumWords, Stands}
 use Rattle.page_contracts.specs.Stores.{StoreMeaning, IsNeeded, IsSound, Loses, StaysPlanned, traffic}
+use Rattle.plain_model.specs.Forks.{runs_in}
 use Rattle.plain_model.specs.State.{PlainState}
 use Rattle.plain_model.specs.Trees.{PlainTree}
 use Rattle.plain_model.specs.Run.{AreLegal, items_of, state_after}
@@ -103,11 +104,13 @@ pub record Needs {S : Type 0} (means : SystemMeaning S) (x : Task) (old new : S)
   pub needed : IsNeeded means.store (most_framed x) new need
   pub wanted : (d : DrumWords) (home : Home) → means.fits old d → need ≡ Page home → has home.0 (means.wants old d x) ≡ true
 
--- units of a fork are done in a row: over each drum that fits they are legal, the plain state is the one that they leave, and what they show is the reply, which can be given
+-- Units of a fork are done in a row: over each drum that fits they are legal, the plain state is the one that they leave, and what they show is the reply, which can be
+-- given; and up to the last of them the same forks can run.
 pub record DidUnits {S : Type 0} (means : SystemMeaning S) (f : ForkName) (old new : S) (done : Progress) : Type 0 where
   pub each : (d : DrumWords) → means.fits old d
       → means.fits new d × AreLegal true (means.plain old d) (row_of f done.count) × (means.plain new d ≡ state_after (means.plain old d) (row_of f done.count))
       × (means.items (means.plain new d) (showing.Reply done.reply) ≡ items_of (means.plain old d) (row_of f done.count)) × means.gives new d (showing.Reply done.reply)
+  pub runs : (d : DrumWords) → means.fits old d → (k : ℕ) → k < done.count → (g : ForkName) → runs_in (state_after (means.plain old d) (row_of f k)).forks g ≡ runs_in (means.tree old).forks g
   pub named : IsForkName f
   pub shown : FitsShowing (showing.Reply done.reply)
   pub limit : means.limit new ≡ means.limit old

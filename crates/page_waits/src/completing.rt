@@ -52,6 +52,7 @@ pub fn complete<S: System, D: Drum>(
     ensures empty { S.means.store.queue system.old ≡ [] → result ≡ Completed.Nothing }
     ensures lists { result ≡ Completed.Nothing → lists.new ≡ lists.old }
     ensures limit { S.means.limit system.new ≡ S.means.limit system.old }
+    ensures frames { S.means.store.frames system.new ≡ S.means.store.frames system.old }
 {
     lists.sound();
     match system.complete(drum) {

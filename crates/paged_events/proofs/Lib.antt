@@ -8,3 +8,5 @@ mod TypeIn
 mod Acted
 mod RowsMore
 mod NoMoves
+mod Calmness
+mod Coming

@@ -4,6 +4,7 @@ use Rattle.std.specs.Prelude.{Result, Ok, Err, OnOk}
 use Rattle.std.specs.Option.{option_map_or}
 use Rattle.event_deeds.specs.Deeds.{DeedEffect, deed, deeds}
 use Rattle.event_deeds.specs.declared.deed.Deed.{Deed}
+use Rattle.fork_lists.specs.declared.lists.ForkLists.{ForkLists}
 use Rattle.machine_names.specs.declared.names.Tty.{Tty}
 use Rattle.page_contracts.specs.DrumWords.{DrumWords, Stands}
 use Rattle.page_waits.specs.Systems.{SystemMeaning}
@@ -13,6 +14,7 @@ use Rattle.plain_model.specs.Unit.{Effect}
 use Rattle.script_texts.specs.declared.event.Item.{Item}
 use Rattle.script_texts.specs.Taker.{GoesOn, IsCut}
 use Rattle.script_texts.proofs.Takers.{cut_behind, cut_longer, goes_on_append, goes_on_nil}
+use Rattle.paged_events.specs.Calmly.{StaysInCore}
 use Rattle.paged_events.specs.Given.{Standing}
 use Rattle.paged_events.specs.Typing.{CutPart, CutTyped, DidPart, DidTyped, ShowedFirst, Typed}
 use Rattle.paged_events.specs.declared.fault.Fault.{Fault}
@@ -161,6 +163,11 @@ module _ {S : Type 0} (means : SystemMeaning S) {D T : Type 0} (held : D → Opt
   -- nothing failed
   pub typed_well : {X : Type 0} (x : X) (f : PlainState → Effect) (s s' : S) (drum drum' : D) (out out' : T) → DidTyped means held stands cut f s s' drum drum' out out' → Typed means held stands cut f (Ok x) s s' drum drum' out out'
   typed_well x f s s' drum drum' out out' did = record { ok = did; stopped = λ is. absurd (cc is); cutoff = λ is. absurd (cc is) }
+
+  -- all stays in core behind what was typed
+  pub core_then : (f : PlainState → Effect) (s0 s1 s2 : S) (l0 l1 l2 : ForkLists) (d0 d1 : D) (o0 o1 : T) → DidTyped means held stands cut f s0 s1 d0 d1 o0 o1 → StaysInCore means held s0 s1 l0 l1 d0 → StaysInCore means held s1 s2 l1 l2 d1
+      → StaysInCore means held s0 s2 l0 l2 d0
+  core_then f s0 s1 s2 l0 l1 l2 d0 d1 o0 o1 did first second frames d st fits core = let x = did.each d st fits in second frames x.0 x.1 x.2 (first frames d st fits core)
 
   -- a part of a character, as what was done and shown
   pub part_did : (d : Deed) (next : Option Deed) (s s' : S) (drum drum' : D) (out out' : T) → DidPart means held stands cut d next s s' drum drum' out out' → DidTyped means held stands cut (λ p. effect_of (deed p d)) s s' drum drum' out out'

@@ -1,7 +1,7 @@
 pub mod Faults
 pub mod Outside
+pub mod Calmly
 pub mod Given
 pub mod Typing
 pub mod Rows
 pub mod Events
-pub mod Calmly

@@ -1,10 +1,11 @@
 // Events that are one deed, and those that are no entry.
-ghost use Rattle.std.specs.Prelude.{◌≡◌, ◌≤◌, ◌^◌, Err, IfOk, None, Ok, OnErr, OnOk, drop};
+ghost use Rattle.std.specs.Prelude.{◌≡◌, ◌≤◌, ◌^◌, ℕ, Err, IfOk, None, Ok, OnErr, OnOk, drop};
 ghost use Rattle.event_deeds.specs.Deeds.{FitsDeed, IsTold};
 ghost use Rattle.event_deeds.specs.declared.deed.Deed.{Deed as ADeed};
 ghost use Rattle.outside.specs.Faults.{Rose};
 ghost use Rattle.page_contracts.specs.Stores.{Evicts};
 ghost use Rattle.page_waits.specs.Acts.{Quiet};
+ghost use Rattle.page_waits.specs.InCore.{IsInCore};
 ghost use Rattle.page_waits.specs.Systems.{StaysState};
 ghost use Rattle.page_waits.specs.Waits.{the_lists};
 ghost use Rattle.page_waits.specs.Machines.{IsBare, KeepsMarks, auto, limit};
@@ -32,7 +33,7 @@ pub fn step<S: System, D: Drum, T: Taker>(
     requires within { IsWithin S.means waits.old.system (2 ^ 50) }
     requires deed { FitsDeed (ADeed.Outer e.now) }
     requires told { IsTold (ADeed.Outer e.now) }
-    ensures acted { Acted S.means D.held T.stands T.cut (auto waits.old) e.now result waits.old.system waits.new.system drum.old drum.new out.old out.new }
+    ensures acted { Acted S.means D.held T.stands T.cut (auto waits.old) e.now result waits.old.system waits.new.system waits.old.lists waits.new.lists drum.old drum.new out.old out.new }
     ensures outside { UsesOutside T.onward T.fault_count D.fault_count D.read_count D.write_count D.size result out.old out.new drum.old drum.new }
     ensures bare { IfOk result (λ n. IsBare waits.new) }
     ensures marks { KeepsMarks waits.old waits.new }
@@ -61,7 +62,7 @@ pub fn look<S: System, D: Drum, T: Taker>(
     requires within { IsWithin S.means waits.old.system (2 ^ 50) }
     requires deed { FitsDeed (ADeed.Outer e.now) }
     requires cause { FitsCause cause }
-    ensures acted { Acted S.means D.held T.stands T.cut (auto waits.old) e.now result waits.old.system waits.new.system drum.old drum.new out.old out.new }
+    ensures acted { Acted S.means D.held T.stands T.cut (auto waits.old) e.now result waits.old.system waits.new.system waits.old.lists waits.new.lists drum.old drum.new out.old out.new }
     ensures outside { UsesOutside T.onward T.fault_count D.fault_count D.read_count D.write_count D.size result out.old out.new drum.old drum.new }
     ensures bare { IfOk result (λ n. IsBare waits.new) }
     ensures marks { KeepsMarks waits.old waits.new }
@@ -111,6 +112,7 @@ pub fn end_transfers<S: System, D: Drum>(
     ensures fails { result ≡ Err Fault.Taker → ⊥ }
     ensures quiet { OnOk result (Quiet S.means the_lists D.held None None None 0 waits.old.system waits.new.system waits.old.lists waits.new.lists drum.old drum.new) }
     ensures oldest { OnOk result (S.means.store.queue waits.new.system ≡ drop n (S.means.store.queue waits.old.system)) }
+    ensures core { (frames : ℕ) → IsInCore S.means frames waits.old.system waits.old.lists → OnOk result (IsInCore S.means frames waits.new.system waits.new.lists) }
     ensures bare { IsBare waits.new }
     ensures marks { KeepsMarks waits.old waits.new }
 {

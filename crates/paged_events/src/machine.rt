@@ -2,7 +2,7 @@
 ghost use Rattle.std.specs.Prelude.{◌≡◌, ◌<◌, ◌^◌, ◌≤◌, ◌↔◌, ℕ, IfOk, OnOk, drop, false, true};
 ghost use Rattle.outside.specs.Faults.{Rose};
 ghost use Rattle.page_contracts.specs.Stores.{Evicts};
-ghost use Rattle.page_waits.specs.Machines.{IsBare, auto as mark_of, limit as limit_of};
+ghost use Rattle.page_waits.specs.Machines.{IsBare, auto as mark_of, frames as frames_of, limit as limit_of};
 ghost use Rattle.script_texts.specs.Follows.{auto_after};
 ghost use Rattle.script_texts.specs.Limits.{FitsEvent};
 ghost use Rattle.script_texts.specs.Taker.{StaysOnward};
@@ -43,7 +43,7 @@ fn act<S: System, D: Drum, T: Taker>(
     requires bare { IsBare waits.old }
     requires within { IsWithin S.means waits.old.system (2 ^ 50) }
     requires fits { FitsEvent e }
-    ensures acted { Acted S.means D.held T.stands T.cut (mark_of waits.old) e result waits.old.system waits.new.system drum.old drum.new out.old out.new }
+    ensures acted { Acted S.means D.held T.stands T.cut (mark_of waits.old) e result waits.old.system waits.new.system waits.old.lists waits.new.lists drum.old drum.new out.old out.new }
     ensures outside { UsesOutside T.onward T.fault_count D.fault_count D.read_count D.write_count D.size result out.old out.new drum.old drum.new }
     ensures rows { (n : ℕ) → e ≡ AnEvent.Run n → OnOk result (TookRows S.means (record { reads = D.read_count; writes = D.write_count }) (mark_of waits.old) n waits.old.system waits.new.system waits.old.lists waits.new.lists drum.old drum.new) }
     ensures off { (n : ℕ) → e ≡ AnEvent.Run n → mark_of waits.old ≡ false → drum.new ≡ drum.old }
@@ -52,6 +52,7 @@ fn act<S: System, D: Drum, T: Taker>(
     ensures bare { IfOk result (λ n. IsBare waits.new) }
     ensures auto { mark_of waits.new ≡ auto_after (mark_of waits.old) e }
     ensures limit { limit_of waits.new ≡ limit_of waits.old }
+    ensures frames { frames_of waits.new ≡ frames_of waits.old }
 {
     match e {
         Event::Run(n) => run(waits, n, drum, out),
@@ -96,7 +97,7 @@ impl<S: System> Machine<S> {
         ensures drum_cause { result ≡ Ended.DrumFault → Rose (D.fault_count drum.old) (D.fault_count drum.new) }
         ensures drum { DrumStays D.fault_count D.read_count D.write_count D.size drum.old drum.new }
 
-        ensures went { result ≡ Ended.Went → Went S.means D.held T.stands T.cut (mark_of self.old.waits) e self.old.done self.new.done self.old.waits.system self.new.waits.system drum.old drum.new out.old out.new }
+        ensures went { result ≡ Ended.Went → Went S.means D.held T.stands T.cut (mark_of self.old.waits) e self.old.done self.new.done self.old.waits.system self.new.waits.system self.old.waits.lists self.new.waits.lists drum.old drum.new out.old out.new }
         ensures stopped { result ≡ Ended.DrumFault → Stopped S.means.store.flat S.means.fits S.means.plain D.held T.stands self.old.waits.system drum.old out.old out.new (mark_of self.old.waits) e }
         ensures cutoff { result ≡ Ended.TakerFault → CutOff S.means.store.flat S.means.fits S.means.plain D.held T.stands T.cut self.old.waits.system drum.old out.old out.new (mark_of self.old.waits) e }
 
@@ -108,6 +109,7 @@ impl<S: System> Machine<S> {
         ensures auto { mark_of self.new.waits ≡ auto_after (mark_of self.old.waits) e }
         ensures live { (self.new.live ≡ true) ↔ (result ≡ Ended.Went) }
         ensures limit { limit_of self.new.waits ≡ limit_of self.old.waits }
+        ensures frames { frames_of self.new.waits ≡ frames_of self.old.waits }
         ensures bare { result ≡ Ended.Went → IsBare self.new.waits }
         ensures within { result ≡ Ended.Went → IsWithin S.means self.new.waits.system self.new.done }
     {

@@ -25,18 +25,22 @@ fn next_turns<S: System, D: Drum, T: Taker>(
     requires bare { IsBare waits.old }
     requires some { 1 ≤ left }
     requires within { IsWithin S.means waits.old.system (2 ^ 51) }
-    ensures took { TookTurns S.means D.held T.stands T.cut (auto waits.old) left result waits.old.system waits.new.system drum.old drum.new out.old out.new }
+    ensures took { TookTurns S.means D.held T.stands T.cut (auto waits.old) left result waits.old.system waits.new.system waits.old.lists waits.new.lists drum.old drum.new out.old out.new }
     ensures rows { IfOk result (λ n. TookRows S.means (record { reads = D.read_count; writes = D.write_count }) (auto waits.old) n waits.old.system waits.new.system waits.old.lists waits.new.lists drum.old drum.new) }
     ensures outside { UsesOutside T.onward T.fault_count D.fault_count D.read_count D.write_count D.size result out.old out.new drum.old drum.new }
     ensures off { auto waits.old ≡ false → drum.new ≡ drum.old }
     ensures bare { IfOk result (λ n. IsBare waits.new) }
     ensures marks { KeepsMarks waits.old waits.new }
 {
+    waits.lists_are_sound();
     match waits.turns(left, drum) {
         Ok(turn) => match turn {
             Turn::Ran(row) => match give_units(waits, &row, out) {
                 Ok(()) => match waits.end_quantum(row.ended, drum) {
-                    Ok(()) => Ok(row.progress.count),
+                    Ok(()) => {
+                        waits.lists_are_sound();
+                        Ok(row.progress.count)
+                    }
                     Err(_) => Err(Fault::Drum),
                 },
                 Err(_) => Err(Fault::Taker),
@@ -61,13 +65,14 @@ pub fn run<S: System, D: Drum, T: Taker>(
     requires bare { IsBare waits.old }
     requires few { n ≤ 1000000 }
     requires within { IsWithin S.means waits.old.system (2 ^ 50) }
-    ensures acted { Acted S.means D.held T.stands T.cut (auto waits.old) (AnEvent.Run n) result waits.old.system waits.new.system drum.old drum.new out.old out.new }
+    ensures acted { Acted S.means D.held T.stands T.cut (auto waits.old) (AnEvent.Run n) result waits.old.system waits.new.system waits.old.lists waits.new.lists drum.old drum.new out.old out.new }
     ensures rows { OnOk result (TookRows S.means (record { reads = D.read_count; writes = D.write_count }) (auto waits.old) n waits.old.system waits.new.system waits.old.lists waits.new.lists drum.old drum.new) }
     ensures outside { UsesOutside T.onward T.fault_count D.fault_count D.read_count D.write_count D.size result out.old out.new drum.old drum.new }
     ensures off { auto waits.old ≡ false → drum.new ≡ drum.old }
     ensures bare { IfOk result (λ n. IsBare waits.new) }
     ensures marks { KeepsMarks waits.old waits.new }
 {
+    waits.lists_are_sound();
     let mut left = n;
     while left > 0 {
         match next_turns(waits, left, drum, out) {

@@ -7,6 +7,7 @@ ghost use Rattle.script_texts.specs.Limits.{FitsEvent};
 ghost use Rattle.script_texts.specs.declared.event.Event.{Event as AnEvent};
 ghost use Rattle.page_waits.specs.Machines.{IsBare, KeepsMarks, auto, limit};
 ghost use Rattle.event_deeds.specs.Deeds.{IsNext};
+ghost use Rattle.paged_events.specs.Calmly.{StaysInCore};
 ghost use Rattle.paged_events.specs.Given.{Acted, IsWithin, StaysWithin};
 ghost use Rattle.paged_events.specs.Outside.{UsesOutside};
 ghost use Rattle.paged_events.specs.Typing.{CutPart, DidPart, Typed};
@@ -38,6 +39,7 @@ fn part<S: System, D: Drum, T: Taker>(
     ensures next { IfOk result (λ next. IfSome next IsNext) }
     ensures outside { UsesOutside T.onward T.fault_count D.fault_count D.read_count D.write_count D.size result out.old out.new drum.old drum.new }
     ensures within { IfOk result (λ next. StaysWithin S.means waits.old.system waits.new.system) }
+    ensures core { IfOk result (λ next. StaysInCore S.means D.held waits.old.system waits.new.system waits.old.lists waits.new.lists drum.old) }
     ensures bare { IfOk result (λ next. IsBare waits.new) }
     ensures marks { KeepsMarks waits.old waits.new }
 {
@@ -65,6 +67,7 @@ fn deeds<S: System, D: Drum, T: Taker>(
     ensures typed { Typed S.means D.held T.stands T.cut (λ s. deeds_of left s deed.now) result waits.old.system waits.new.system drum.old drum.new out.old out.new }
     ensures outside { UsesOutside T.onward T.fault_count D.fault_count D.read_count D.write_count D.size result out.old out.new drum.old drum.new }
     ensures within { OnOk result (StaysWithin S.means waits.old.system waits.new.system) }
+    ensures core { OnOk result (StaysInCore S.means D.held waits.old.system waits.new.system waits.old.lists waits.new.lists drum.old) }
     ensures bare { OnOk result (IsBare waits.new) }
     ensures marks { KeepsMarks waits.old waits.new }
 {
@@ -96,6 +99,7 @@ fn type_one<S: System, D: Drum, T: Taker>(
     ensures typed { Typed S.means D.held T.stands T.cut (λ s. typed_at s t code) result waits.old.system waits.new.system drum.old drum.new out.old out.new }
     ensures outside { UsesOutside T.onward T.fault_count D.fault_count D.read_count D.write_count D.size result out.old out.new drum.old drum.new }
     ensures within { OnOk result (StaysWithin S.means waits.old.system waits.new.system) }
+    ensures core { OnOk result (StaysInCore S.means D.held waits.old.system waits.new.system waits.old.lists waits.new.lists drum.old) }
     ensures bare { OnOk result (IsBare waits.new) }
     ensures marks { KeepsMarks waits.old waits.new }
 {
@@ -121,6 +125,7 @@ fn type_text<S: System, D: Drum, T: Taker>(
     ensures typed { Typed S.means D.held T.stands T.cut (λ s. typed_all s t (drop (length text.now - left) text.now)) result waits.old.system waits.new.system drum.old drum.new out.old out.new }
     ensures outside { UsesOutside T.onward T.fault_count D.fault_count D.read_count D.write_count D.size result out.old out.new drum.old drum.new }
     ensures within { OnOk result (StaysWithin S.means waits.old.system waits.new.system) }
+    ensures core { OnOk result (StaysInCore S.means D.held waits.old.system waits.new.system waits.old.lists waits.new.lists drum.old) }
     ensures bare { OnOk result (IsBare waits.new) }
     ensures marks { KeepsMarks waits.old waits.new }
 {
@@ -146,7 +151,7 @@ pub fn type_in<S: System, D: Drum, T: Taker>(
     requires within { IsWithin S.means waits.old.system (2 ^ 50) }
     requires bare { IsBare waits.old }
     requires fits { FitsEvent (AnEvent.TypeIn t text) }
-    ensures acted { Acted S.means D.held T.stands T.cut (auto waits.old) (AnEvent.TypeIn t text) result waits.old.system waits.new.system drum.old drum.new out.old out.new }
+    ensures acted { Acted S.means D.held T.stands T.cut (auto waits.old) (AnEvent.TypeIn t text) result waits.old.system waits.new.system waits.old.lists waits.new.lists drum.old drum.new out.old out.new }
     ensures outside { UsesOutside T.onward T.fault_count D.fault_count D.read_count D.write_count D.size result out.old out.new drum.old drum.new }
     ensures bare { IfOk result (λ n. IsBare waits.new) }
     ensures marks { KeepsMarks waits.old waits.new }

@@ -103,6 +103,10 @@ avoids_moves f before after runs =
     (avoids_stops f (λ g. runs_in before g && not (runs_in after g)) (names_of before) (λ g is. apart_from after f g runs (runs_in before g) is))
     (avoids_both f (map Starts waited) (map Starts others) (avoids_starts f waited) (avoids_starts f others))
 
+-- a fork that can run behind an act comes no farther back by what that has moved
+pub acts_come : (f : ForkName) (before after : ForkMap) (s : Schedule) → runs_in after f ≡ true → IsTimed s → is_in_line f s ≡ true → ComesOn f s (moved (moves before after) s)
+acts_come f before after s runs = moves_come f (moves before after) s (avoids_moves f before after runs)
+
 -- a unit that is counted, where its fork still is the head: either way another comes closer
 unit_comes : (f g : ForkName) (c u : Schedule) → (g ≡ f → ⊥) → heads g c.ready ≡ true → ComesOn f c u → Nears f c (counted_to g u) 1
 unfolding row_ran
@@ -143,7 +147,7 @@ short f c c' s (AUnit g ∷ y ∷ ys) (quiet, ready, head, rest) (still, calm, l
     let d = moved_silently quiet c in
     let more = short f (behind s (AUnit g) d) c' now (y ∷ ys) rest later_calm are.1 later in
     let u = moved (moves s.forks now.forks) c in
-    let came = moves_come f (moves s.forks now.forks) c (avoids_moves f s.forks now.forks later.0) ready_now.timed here in
+    let came = acts_come f s.forks now.forks c later.0 ready_now.timed here in
     let closer = (unit_comes f g c u (λ same. other (ap AUnit same)) is came).nearer in
     let same : ahead_of f (behind s (AUnit g) d) ≡ ahead_of f (behind s (AUnit g) c) = ap (λ (q : List Silent). ahead_of f (behind s (AUnit g) (moved_silently q c))) still in
     omega (arith, closer, more, same)

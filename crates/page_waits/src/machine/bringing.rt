@@ -11,7 +11,7 @@ ghost use Rattle.page_waits.specs.Acts.{DidOver, DidThere, Quiet, Spent, Still, 
 ghost use Rattle.page_waits.specs.Calm.{IsRoomy};
 ghost use Rattle.page_waits.specs.Holders.{AreReleased};
 ghost use Rattle.page_waits.specs.InCore.{IsInCore};
-ghost use Rattle.page_waits.specs.Machines.{IsBare, KeepsMarks, auto, limit};
+ghost use Rattle.page_waits.specs.Machines.{IsBare, KeepsMarks, auto, frames, limit};
 ghost use Rattle.page_waits.specs.Systems.{StaysTold};
 ghost use Rattle.event_deeds.specs.Deeds.{IsNext};
 ghost use Rattle.page_waits.specs.Told.{AllTold, MovesSilently, TookDeed};
@@ -53,6 +53,7 @@ impl<S: System> Machine<S> {
         ensures bare { IfOk result (λ answer. IsBare self.new) }
         ensures still { (n : ANeed) → result ≡ Err n → Still S.means the_lists (Some deed.now) None (Some n) self.old.system self.new.system self.old.lists self.new.lists }
         ensures limit { limit self.new ≡ limit self.old }
+        ensures frames { frames self.new ≡ frames self.old }
         ensures stays { (n : ANeed) → result ≡ Err n → self.new.lists ≡ self.old.lists }
         ensures fewer { (n : ANeed) → IsTold deed.now → result ≡ Err n → told_work S.means the_lists deed.now (Some n) self.new.system self.new.lists ≤ told_work S.means the_lists deed.now None self.old.system self.old.lists }
         ensures awaited { (n : ANeed) → result ≡ Err n → AreAwaited S.means (waits_with (Some n) (the_lists.waiting self.new.lists)) self.new.system }
@@ -125,6 +126,7 @@ impl<S: System> Machine<S> {
         ensures spent { result ≡ Ok None → Spent S.means the_lists D.held self.old.system drum.old }
         ensures bare { IfOk result (λ came. IsBare self.new) }
         ensures limit { limit self.new ≡ limit self.old }
+        ensures frames { frames self.new ≡ frames self.old }
         ensures mark { auto self.new ≡ auto self.old }
         ensures calm { (frames : ℕ) (d : DrumWords) → S.means.fits self.old.system d → IsInCore S.means frames self.old.system self.old.lists → IsNext deed.now ⊎ IsRoomy frames (S.means.plain self.old.system d) → IsOkAnd result (λ came. IsInCore S.means frames self.new.system self.new.lists) }
         ensures answers { (frames : ℕ) (d : DrumWords) → S.means.fits self.old.system d → IsInCore S.means frames self.old.system self.old.lists → IsNext deed.now ⊎ IsRoomy frames (S.means.plain self.old.system d) → IfOk result IsSome }
@@ -172,6 +174,7 @@ impl<S: System> Machine<S> {
         ensures took { IfOk result (λ answer. TookDeed (S.means.tree self.old.system).forks (S.means.tree self.new.system).forks self.old.lists.sched self.new.lists.sched) }
         ensures bare { IfOk result (λ answer. IsBare self.new) }
         ensures limit { limit self.new ≡ limit self.old }
+        ensures frames { frames self.new ≡ frames self.old }
         ensures mark { auto self.new ≡ auto self.old }
         ensures calm { (frames : ℕ) (d : DrumWords) → S.means.fits self.old.system d → IsInCore S.means frames self.old.system self.old.lists → IsNext deed.now ⊎ IsRoomy frames (S.means.plain self.old.system d) → IsOkAnd result (λ answer. IsInCore S.means frames self.new.system self.new.lists) }
     {

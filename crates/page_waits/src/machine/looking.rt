@@ -18,7 +18,7 @@ ghost use Rattle.page_waits.specs.Calm.{IsRoomy};
 ghost use Rattle.page_waits.specs.Holders.{AreAll, AreReleased, holder_at};
 ghost use Rattle.page_waits.specs.Idling.{IsIdle, Moved};
 ghost use Rattle.page_waits.specs.InCore.{IdledCalmly, IsInCore, RanCalmly, TookCalmly};
-ghost use Rattle.page_waits.specs.Machines.{IsBare, KeepsMarks, auto, limit};
+ghost use Rattle.page_waits.specs.Machines.{IsBare, KeepsMarks, auto, frames, limit};
 ghost use Rattle.page_waits.specs.Systems.{StaysState};
 ghost use Rattle.page_waits.specs.Told.{LastCounted, MovesSilently, TookRow, ends_quantum};
 ghost use Rattle.page_waits.specs.Waits.{AreAwaited, AreStanding, IsHead, the_lists};
@@ -86,6 +86,7 @@ fn finish<S: System>(system: &mut S, lists: &mut ForkLists, head: Head, holders:
     ensures released { AreReleased (holder_at holders.now) (the_lists.member lists.new) (S.means.store.holds system.new) }
     ensures all { AreAll holders.now (S.means.store.holds system.new) }
     ensures state { StaysState S.means system.old system.new }
+    ensures frames { S.means.store.frames system.new ≡ S.means.store.frames system.old }
     ensures bare { S.means.store.holds system.old CONSOLE_HOLDER ≡ [] → S.means.store.holds system.new CONSOLE_HOLDER ≡ [] }
     ensures calm { (frames : ℕ) → IsInCore S.means frames system.old lists.old → lists.new.sched ≡ last_counted head.fork lists.old.sched }
     ensures core { (frames : ℕ) → IsInCore S.means frames system.old lists.old → IsInCore S.means frames system.new lists.new }
@@ -117,6 +118,7 @@ impl<S: System> Machine<S> {
         ensures fewer { result ≡ None → length (the_lists.ready self.new.lists) < length (the_lists.ready self.old.lists) }
         ensures bare { IsBare self.new }
         ensures limit { limit self.new ≡ limit self.old }
+        ensures frames { frames self.new ≡ frames self.old }
         ensures mark { auto self.new ≡ auto self.old }
         ensures calm { (frames : ℕ) (d : DrumWords) → S.means.fits self.old.system d → IsInCore S.means frames self.old.system self.old.lists → IsRoomy frames (S.means.plain self.old.system d) → IsSomeAnd result (λ u. RanCalmly S.means frames u self.old.system self.new.system self.old.lists self.new.lists) }
     {
@@ -157,6 +159,7 @@ impl<S: System> Machine<S> {
         ensures nobody { result ≡ None → self.new.lists.sched.waiting ≡ [] → (f : AForkName) → IsRunnable (S.means.tree self.new.system).forks f → ⊥ }
         ensures bare { IsBare self.new }
         ensures limit { limit self.new ≡ limit self.old }
+        ensures frames { frames self.new ≡ frames self.old }
         ensures mark { auto self.new ≡ auto self.old }
         ensures calm { (frames : ℕ) (d : DrumWords) → S.means.fits self.old.system d → IsInCore S.means frames self.old.system self.old.lists → IsRoomy frames (S.means.plain self.old.system d) → MatchOption result (IdledCalmly S.means self.old.system self.new.system self.old.lists self.new.lists) (λ u. RanCalmly S.means frames u self.old.system self.new.system self.old.lists self.new.lists) }
     {
@@ -214,6 +217,7 @@ impl<S: System> Machine<S> {
         ensures off { auto self.old ≡ false → drum.new ≡ drum.old }
         ensures bare { IsBare self.new }
         ensures limit { limit self.new ≡ limit self.old }
+        ensures frames { frames self.new ≡ frames self.old }
         ensures mark { auto self.new ≡ auto self.old }
         ensures calm { (frames : ℕ) (d : DrumWords) → S.means.fits self.old.system d → IsInCore S.means frames self.old.system self.old.lists → IsRoomy frames (S.means.plain self.old.system d) → IsOkAnd result (λ came. MatchOption came (IdledCalmly S.means self.old.system self.new.system self.old.lists self.new.lists) (λ u. RanCalmly S.means frames u self.old.system self.new.system self.old.lists self.new.lists)) }
     {
@@ -272,6 +276,7 @@ impl<S: System> Machine<S> {
         ensures off { auto self.old ≡ false → drum.new ≡ drum.old }
         ensures bare { IsBare self.new }
         ensures limit { limit self.new ≡ limit self.old }
+        ensures frames { frames self.new ≡ frames self.old }
         ensures mark { auto self.new ≡ auto self.old }
         ensures calm { (frames : ℕ) (d : DrumWords) → S.means.fits self.old.system d → IsInCore S.means frames self.old.system self.old.lists → IsRoomy frames (S.means.plain self.old.system d) → IsOkAnd result (λ turn. TookCalmly S.means frames turn self.old.system self.new.system self.old.lists self.new.lists) }
     {

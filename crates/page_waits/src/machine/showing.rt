@@ -1,7 +1,9 @@
 // What a machine shows, and what is told of it without a drum.
 ghost use Rattle.std.specs.Prelude.{◌≡◌, ◌≤◌, [], OnErr, OnOk, is_some};
 ghost use Rattle.std.specs.FinMap as map;
+ghost use Rattle.fork_lists.specs.Ties.{AreTied};
 ghost use Rattle.fork_tree.specs.Trees.{IsTree};
+ghost use Rattle.job_sched.specs.Ties.{IsSound};
 ghost use Rattle.machine_names.specs.Bounds.{IsTerminal};
 ghost use Rattle.outside.specs.Faults.{Rose};
 ghost use Rattle.page_contracts.specs.DrumWords.{DrumWords};
@@ -34,6 +36,14 @@ impl<S: System> Machine<S> {
         ensures { (d : DrumWords) → S.means.fits self.now.system d → result ≡ is_some (map.get (S.means.plain self.now.system d).jobs t.0) }
     {
         self.system.has_job(t)
+    }
+
+    /// The lists are sound, and the forks in them are those that can run. Does nothing when it runs.
+    pub fn lists_are_sound(&self)
+        ensures sound { IsSound self.now.lists.sched }
+        ensures tied { AreTied (S.means.tree self.now.system).forks self.now.lists }
+    {
+        self.lists.sound();
     }
 
     /// The forks of each job are a tree. Does nothing when it runs.

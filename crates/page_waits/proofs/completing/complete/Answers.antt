@@ -86,3 +86,12 @@ returns-in-Done-clause-fewer g c n x is =
 
 pub returns-in-Done-clause-oldest : goal.returns-in-Done-clause-oldest
 returns-in-Done-clause-oldest g c n is = c.hold_needed.ensures.queued.queue ∙ sym (ap (drop 1) (c.in-Done.ensures.ends.done c.in-Done.need refl).oldest)
+
+pub returns-in-Done-clause-frames : goal.returns-in-Done-clause-frames
+returns-in-Done-clause-frames g c = c.hold_needed.ensures.there.framed.frames ∙ (c.in-Done.ensures.ends.done c.in-Done.need refl).frames
+
+pub returns-in-DrumFault-clause-frames : goal.returns-in-DrumFault-clause-frames
+returns-in-DrumFault-clause-frames g c = (c.in-DrumFault.ensures.ends.failed refl).there.framed.frames
+
+pub returns-in-Nothing-clause-frames : goal.returns-in-Nothing-clause-frames
+returns-in-Nothing-clause-frames g c = ap g.S.System.means.store.frames (c.in-Nothing.ensures.ends.same refl).0

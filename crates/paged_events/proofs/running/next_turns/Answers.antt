@@ -3,12 +3,15 @@ use Rattle.std.proofs.lemmas.List.{length-replicate}
 use Rattle.script_texts.specs.declared.event.Event.TheVariants.{Run}
 use Rattle.script_texts.specs.declared.event.Step.TheVariants.{Idle, Unit}
 use Rattle.std.specs.Prelude.{Ok}
+use Rattle.plain_model.specs.Trees.{PlainTree}
 use Rattle.page_waits.specs.Acts.{Turned, turns_of}
+use Rattle.page_waits.specs.InCore.{TookCalmly}
 use Rattle.page_waits.specs.Systems.{row_of}
 use Rattle.page_waits.specs.declared.turn.Turn.{Turn}
 use Rattle.page_waits.specs.Waits.{the_lists}
 use Rattle.paged_events.specs.Rows.{idle, units}
 use Rattle.paged_events.proofs.Acted.{adds_counted, adds_some, took_cut, took_given, took_stopped}
+use Rattle.paged_events.proofs.Coming.{idle_calm, units_calm}
 use Rattle.paged_events.proofs.Outside.{outside_drum, outside_taker, outside_then, uses_drum, uses_taker, uses_well}
 use Rattle.paged_events.proofs.Over.{over_none, over_quiet, so_far}
 use Rattle.paged_events.proofs.Turning.{are_turns, idle_cut, idle_gave, units_cut, units_gave}
@@ -23,10 +26,13 @@ pub returns-in-Ok-end_quantum-clause-took : goal.returns-in-Ok-end_quantum-claus
 returns-in-Ok-end_quantum-clause-took g c =
     let some = (subst (λ (w : Turn). 1 ≤ turns_of w) c.in-Ran.is c.in-Ok.ensures.some) in
     let most = (subst (λ (w : Turn). turns_of w ≤ c.args.left) c.in-Ran.is c.in-Ok.ensures.most) in
-    took_given g.S.System.means g.D.Drum.held g.T.Taker.stands g.T.Taker.cut c.args.waits.now.auto c.args.left c.args.waits.now.system c.end_quantum.new.self.system c.args.drum.now c.end_quantum.new.drum c.args.out.now c.give_units.new.out (row_of c.in-Ran.row.fork c.in-Ran.row.progress.count) (are_turns c.in-Ran.row.progress.count (Unit c.in-Ran.row.fork) tt) c.in-Ran.row.progress.count some most (length-replicate c.in-Ran.row.progress.count (Unit c.in-Ran.row.fork))
+    took_given g.S.System.means g.D.Drum.held g.T.Taker.stands g.T.Taker.cut c.args.waits.now.auto c.args.left c.args.waits.now.system c.end_quantum.new.self.system c.args.waits.now.lists c.end_quantum.new.self.lists c.args.drum.now c.end_quantum.new.drum c.args.out.now c.give_units.new.out (row_of c.in-Ran.row.fork c.in-Ran.row.progress.count) (are_turns c.in-Ran.row.progress.count (Unit c.in-Ran.row.fork) tt) c.in-Ran.row.progress.count some most (length-replicate c.in-Ran.row.progress.count (Unit c.in-Ran.row.fork))
     (adds_counted g.S.System.means c.in-Ran.row.progress.count c.args.waits.now.system c.end_quantum.new.self.system (λ k w. c.in-Ok-end_quantum.ensures.quiet.told.within (k + c.in-Ran.row.progress.count) ((subst (λ (w : Turn). Turned g.S.System.means the_lists g.D.Drum.held c.args.waits.now.auto c.args.waits.now.system c.turns.new.self.system c.args.drum.now c.turns.new.drum w) c.in-Ran.is c.in-Ok.ensures.turned).within k w)))
     (over_quiet g.S.System.means g.D.Drum.held g.T.Taker.stands g.T.Taker.cut c.args.waits.now.auto the_lists 0 c.args.waits.now.system c.turns.new.self.system c.end_quantum.new.self.system c.turns.new.self.lists c.end_quantum.new.self.lists c.args.drum.now c.turns.new.drum c.end_quantum.new.drum c.args.out.now c.give_units.new.out (row_of c.in-Ran.row.fork c.in-Ran.row.progress.count)
     (units_gave g.S.System.means the_lists g.D.Drum.held g.T.Taker.stands g.T.Taker.cut c.args.waits.now.auto c.in-Ran.row.fork c.in-Ran.row.progress c.args.waits.now.system c.turns.new.self.system c.args.drum.now c.turns.new.drum c.args.out.now c.give_units.new.out (subst (λ (w : Turn). Turned g.S.System.means the_lists g.D.Drum.held c.args.waits.now.auto c.args.waits.now.system c.turns.new.self.system c.args.drum.now c.turns.new.drum w) c.in-Ran.is c.in-Ok.ensures.turned) c.in-Ok-give_units.ensures.ok) c.in-Ok-end_quantum.ensures.quiet)
+    (units_calm g.S.System.means (λ s d fits. ap (λ (t : PlainTree). t.forks) (g.met.S.System.forked s d fits)) g.D.Drum.held c.args.waits.now.system c.args.waits.now.lists c.args.drum.now c.lists_are_sound.ensures.tied c.lists_are_sound.ensures.sound c.in-Ran.row c.turns.new.self.system c.end_quantum.new.self.system c.turns.new.self.lists c.end_quantum.new.self.lists c.turns.new.drum some
+    c.lists_are_sound-2.ensures.tied c.lists_are_sound-2.ensures.sound (subst (λ (w : Turn). Turned g.S.System.means the_lists g.D.Drum.held c.args.waits.now.auto c.args.waits.now.system c.turns.new.self.system c.args.drum.now c.turns.new.drum w) c.in-Ran.is c.in-Ok.ensures.turned) c.in-Ok-end_quantum.ensures.quiet.told.tree
+    (λ frames d fits core room. subst (λ (w : Turn). TookCalmly g.S.System.means frames w c.args.waits.now.system c.turns.new.self.system c.args.waits.now.lists c.turns.new.self.lists) c.in-Ran.is (c.in-Ok.ensures.calm frames d fits core room)) c.end_quantum.ensures.system c.end_quantum.ensures.lists)
 
 pub returns-in-Ok-end_quantum-clause-rows : goal.returns-in-Ok-end_quantum-clause-rows
 returns-in-Ok-end_quantum-clause-rows g c =
@@ -60,7 +66,7 @@ returns-in-Ok-end_quantum-clause-off g c =
 
 pub returns-in-Ok-end_quantum-clause-marks : goal.returns-in-Ok-end_quantum-clause-marks
 returns-in-Ok-end_quantum-clause-marks g c =
-    record { limit = c.end_quantum.ensures.marks.limit ∙ c.turns.ensures.limit; auto = c.end_quantum.ensures.marks.auto ∙ c.turns.ensures.mark }
+    record { limit = c.end_quantum.ensures.marks.limit ∙ c.turns.ensures.limit; frames = c.end_quantum.ensures.marks.frames ∙ c.turns.ensures.frames; auto = c.end_quantum.ensures.marks.auto ∙ c.turns.ensures.mark }
 
 pub returns-in-Err-end_quantum-clause-off : goal.returns-in-Err-end_quantum-clause-off
 returns-in-Err-end_quantum-clause-off g c =
@@ -68,7 +74,7 @@ returns-in-Err-end_quantum-clause-off g c =
 
 pub returns-in-Err-end_quantum-clause-marks : goal.returns-in-Err-end_quantum-clause-marks
 returns-in-Err-end_quantum-clause-marks g c =
-    record { limit = c.end_quantum.ensures.marks.limit ∙ c.turns.ensures.limit; auto = c.end_quantum.ensures.marks.auto ∙ c.turns.ensures.mark }
+    record { limit = c.end_quantum.ensures.marks.limit ∙ c.turns.ensures.limit; frames = c.end_quantum.ensures.marks.frames ∙ c.turns.ensures.frames; auto = c.end_quantum.ensures.marks.auto ∙ c.turns.ensures.mark }
 
 pub returns-in-Ok-end_quantum-clause-outside : goal.returns-in-Ok-end_quantum-clause-outside
 returns-in-Ok-end_quantum-clause-outside g c =
@@ -80,11 +86,11 @@ returns-in-Err-end_quantum-clause-outside g c =
 
 pub returns-in-Err-end_quantum-clause-took : goal.returns-in-Err-end_quantum-clause-took
 returns-in-Err-end_quantum-clause-took g c =
-    took_stopped g.S.System.means g.D.Drum.held g.T.Taker.stands g.T.Taker.cut c.args.waits.now.auto c.args.left c.args.waits.now.system c.end_quantum.new.self.system c.args.drum.now c.end_quantum.new.drum c.args.out.now c.give_units.new.out (row_of c.in-Ran.row.fork c.in-Ran.row.progress.count) (are_turns c.in-Ran.row.progress.count (Unit c.in-Ran.row.fork) tt) (omega (arith, length-replicate c.in-Ran.row.progress.count (Unit c.in-Ran.row.fork), (subst (λ (w : Turn). turns_of w ≤ c.args.left) c.in-Ran.is c.in-Ok.ensures.most))) (so_far g.S.System.means g.D.Drum.held g.T.Taker.stands g.T.Taker.cut c.args.waits.now.auto (Run c.args.left) c.args.waits.now.system c.turns.new.self.system c.args.drum.now c.turns.new.drum c.args.out.now c.give_units.new.out (row_of c.in-Ran.row.fork c.in-Ran.row.progress.count) (units_gave g.S.System.means the_lists g.D.Drum.held g.T.Taker.stands g.T.Taker.cut c.args.waits.now.auto c.in-Ran.row.fork c.in-Ran.row.progress c.args.waits.now.system c.turns.new.self.system c.args.drum.now c.turns.new.drum c.args.out.now c.give_units.new.out (subst (λ (w : Turn). Turned g.S.System.means the_lists g.D.Drum.held c.args.waits.now.auto c.args.waits.now.system c.turns.new.self.system c.args.drum.now c.turns.new.drum w) c.in-Ran.is c.in-Ok.ensures.turned) c.in-Ok-give_units.ensures.ok))
+    took_stopped g.S.System.means g.D.Drum.held g.T.Taker.stands g.T.Taker.cut c.args.waits.now.auto c.args.left c.args.waits.now.system c.end_quantum.new.self.system c.args.waits.now.lists c.end_quantum.new.self.lists c.args.drum.now c.end_quantum.new.drum c.args.out.now c.give_units.new.out (row_of c.in-Ran.row.fork c.in-Ran.row.progress.count) (are_turns c.in-Ran.row.progress.count (Unit c.in-Ran.row.fork) tt) (omega (arith, length-replicate c.in-Ran.row.progress.count (Unit c.in-Ran.row.fork), (subst (λ (w : Turn). turns_of w ≤ c.args.left) c.in-Ran.is c.in-Ok.ensures.most))) (so_far g.S.System.means g.D.Drum.held g.T.Taker.stands g.T.Taker.cut c.args.waits.now.auto (Run c.args.left) c.args.waits.now.system c.turns.new.self.system c.args.drum.now c.turns.new.drum c.args.out.now c.give_units.new.out (row_of c.in-Ran.row.fork c.in-Ran.row.progress.count) (units_gave g.S.System.means the_lists g.D.Drum.held g.T.Taker.stands g.T.Taker.cut c.args.waits.now.auto c.in-Ran.row.fork c.in-Ran.row.progress c.args.waits.now.system c.turns.new.self.system c.args.drum.now c.turns.new.drum c.args.out.now c.give_units.new.out (subst (λ (w : Turn). Turned g.S.System.means the_lists g.D.Drum.held c.args.waits.now.auto c.args.waits.now.system c.turns.new.self.system c.args.drum.now c.turns.new.drum w) c.in-Ran.is c.in-Ok.ensures.turned) c.in-Ok-give_units.ensures.ok))
 
 pub returns-in-Err-give_units-clause-took : goal.returns-in-Err-give_units-clause-took
 returns-in-Err-give_units-clause-took g c =
-    took_cut g.S.System.means g.D.Drum.held g.T.Taker.stands g.T.Taker.cut c.args.waits.now.auto c.args.left c.args.waits.now.system c.turns.new.self.system c.args.drum.now c.turns.new.drum c.args.out.now c.give_units.new.out (row_of c.in-Ran.row.fork c.in-Ran.row.progress.count) (are_turns c.in-Ran.row.progress.count (Unit c.in-Ran.row.fork) tt) (omega (arith, length-replicate c.in-Ran.row.progress.count (Unit c.in-Ran.row.fork), (subst (λ (w : Turn). turns_of w ≤ c.args.left) c.in-Ran.is c.in-Ok.ensures.most))) (units_cut g.S.System.means the_lists g.D.Drum.held g.T.Taker.stands g.T.Taker.cut c.args.waits.now.auto c.in-Ran.row.fork c.in-Ran.row.progress c.args.waits.now.system c.turns.new.self.system c.args.drum.now c.turns.new.drum c.args.out.now c.give_units.new.out (subst (λ (w : Turn). Turned g.S.System.means the_lists g.D.Drum.held c.args.waits.now.auto c.args.waits.now.system c.turns.new.self.system c.args.drum.now c.turns.new.drum w) c.in-Ran.is c.in-Ok.ensures.turned) c.in-Err-give_units.ensures.err)
+    took_cut g.S.System.means g.D.Drum.held g.T.Taker.stands g.T.Taker.cut c.args.waits.now.auto c.args.left c.args.waits.now.system c.turns.new.self.system c.args.waits.now.lists c.turns.new.self.lists c.args.drum.now c.turns.new.drum c.args.out.now c.give_units.new.out (row_of c.in-Ran.row.fork c.in-Ran.row.progress.count) (are_turns c.in-Ran.row.progress.count (Unit c.in-Ran.row.fork) tt) (omega (arith, length-replicate c.in-Ran.row.progress.count (Unit c.in-Ran.row.fork), (subst (λ (w : Turn). turns_of w ≤ c.args.left) c.in-Ran.is c.in-Ok.ensures.most))) (units_cut g.S.System.means the_lists g.D.Drum.held g.T.Taker.stands g.T.Taker.cut c.args.waits.now.auto c.in-Ran.row.fork c.in-Ran.row.progress c.args.waits.now.system c.turns.new.self.system c.args.drum.now c.turns.new.drum c.args.out.now c.give_units.new.out (subst (λ (w : Turn). Turned g.S.System.means the_lists g.D.Drum.held c.args.waits.now.auto c.args.waits.now.system c.turns.new.self.system c.args.drum.now c.turns.new.drum w) c.in-Ran.is c.in-Ok.ensures.turned) c.in-Err-give_units.ensures.err)
 
 pub returns-in-Err-give_units-clause-outside : goal.returns-in-Err-give_units-clause-outside
 returns-in-Err-give_units-clause-outside g c =
@@ -92,8 +98,10 @@ returns-in-Err-give_units-clause-outside g c =
 
 pub returns-in-Ok-give_idle-clause-took : goal.returns-in-Ok-give_idle-clause-took
 returns-in-Ok-give_idle-clause-took g c =
-    took_given g.S.System.means g.D.Drum.held g.T.Taker.stands g.T.Taker.cut c.args.waits.now.auto c.args.left c.args.waits.now.system c.turns.new.self.system c.args.drum.now c.turns.new.drum c.args.out.now c.give_idle.new.out (replicate c.in-Idle.count Idle) (are_turns c.in-Idle.count Idle tt) c.in-Idle.count (subst (λ (w : Turn). 1 ≤ turns_of w) c.in-Idle.is c.in-Ok.ensures.some) (subst (λ (w : Turn). turns_of w ≤ c.args.left) c.in-Idle.is c.in-Ok.ensures.most) (length-replicate c.in-Idle.count Idle) (adds_some g.S.System.means c.in-Idle.count c.args.waits.now.system c.turns.new.self.system (subst (λ (w : Turn). Turned g.S.System.means the_lists g.D.Drum.held c.args.waits.now.auto c.args.waits.now.system c.turns.new.self.system c.args.drum.now c.turns.new.drum w) c.in-Idle.is c.in-Ok.ensures.turned).within)
+    took_given g.S.System.means g.D.Drum.held g.T.Taker.stands g.T.Taker.cut c.args.waits.now.auto c.args.left c.args.waits.now.system c.turns.new.self.system c.args.waits.now.lists c.turns.new.self.lists c.args.drum.now c.turns.new.drum c.args.out.now c.give_idle.new.out (replicate c.in-Idle.count Idle) (are_turns c.in-Idle.count Idle tt) c.in-Idle.count (subst (λ (w : Turn). 1 ≤ turns_of w) c.in-Idle.is c.in-Ok.ensures.some) (subst (λ (w : Turn). turns_of w ≤ c.args.left) c.in-Idle.is c.in-Ok.ensures.most) (length-replicate c.in-Idle.count Idle) (adds_some g.S.System.means c.in-Idle.count c.args.waits.now.system c.turns.new.self.system (subst (λ (w : Turn). Turned g.S.System.means the_lists g.D.Drum.held c.args.waits.now.auto c.args.waits.now.system c.turns.new.self.system c.args.drum.now c.turns.new.drum w) c.in-Idle.is c.in-Ok.ensures.turned).within)
     (idle_gave g.S.System.means the_lists g.D.Drum.held g.T.Taker.stands g.T.Taker.cut c.args.waits.now.auto c.in-Idle.count c.args.waits.now.system c.turns.new.self.system c.args.drum.now c.turns.new.drum c.args.out.now c.give_idle.new.out (subst (λ (w : Turn). Turned g.S.System.means the_lists g.D.Drum.held c.args.waits.now.auto c.args.waits.now.system c.turns.new.self.system c.args.drum.now c.turns.new.drum w) c.in-Idle.is c.in-Ok.ensures.turned) c.in-Ok-give_idle.ensures.ok)
+    (idle_calm g.S.System.means (λ s d fits. ap (λ (t : PlainTree). t.forks) (g.met.S.System.forked s d fits)) g.D.Drum.held c.args.waits.now.system c.args.waits.now.lists c.args.drum.now c.lists_are_sound.ensures.tied c.lists_are_sound.ensures.sound c.in-Idle.count c.turns.new.self.system c.turns.new.self.lists (subst (λ (w : Turn). 1 ≤ turns_of w) c.in-Idle.is c.in-Ok.ensures.some)
+    (λ frames d fits core room. subst (λ (w : Turn). TookCalmly g.S.System.means frames w c.args.waits.now.system c.turns.new.self.system c.args.waits.now.lists c.turns.new.self.lists) c.in-Idle.is (c.in-Ok.ensures.calm frames d fits core room)))
 
 pub returns-in-Ok-give_idle-clause-rows : goal.returns-in-Ok-give_idle-clause-rows
 returns-in-Ok-give_idle-clause-rows g c =
@@ -119,11 +127,11 @@ returns-in-Err-give_idle-clause-outside g c =
 
 pub returns-in-Err-give_idle-clause-took : goal.returns-in-Err-give_idle-clause-took
 returns-in-Err-give_idle-clause-took g c =
-    took_cut g.S.System.means g.D.Drum.held g.T.Taker.stands g.T.Taker.cut c.args.waits.now.auto c.args.left c.args.waits.now.system c.turns.new.self.system c.args.drum.now c.turns.new.drum c.args.out.now c.give_idle.new.out (replicate c.in-Idle.count Idle) (are_turns c.in-Idle.count Idle tt) (omega (arith, length-replicate c.in-Idle.count Idle, (subst (λ (w : Turn). turns_of w ≤ c.args.left) c.in-Idle.is c.in-Ok.ensures.most))) (idle_cut g.S.System.means the_lists g.D.Drum.held g.T.Taker.stands g.T.Taker.cut c.args.waits.now.auto c.in-Idle.count c.args.waits.now.system c.turns.new.self.system c.args.drum.now c.turns.new.drum c.args.out.now c.give_idle.new.out (subst (λ (w : Turn). Turned g.S.System.means the_lists g.D.Drum.held c.args.waits.now.auto c.args.waits.now.system c.turns.new.self.system c.args.drum.now c.turns.new.drum w) c.in-Idle.is c.in-Ok.ensures.turned) c.in-Err-give_idle.ensures.err)
+    took_cut g.S.System.means g.D.Drum.held g.T.Taker.stands g.T.Taker.cut c.args.waits.now.auto c.args.left c.args.waits.now.system c.turns.new.self.system c.args.waits.now.lists c.turns.new.self.lists c.args.drum.now c.turns.new.drum c.args.out.now c.give_idle.new.out (replicate c.in-Idle.count Idle) (are_turns c.in-Idle.count Idle tt) (omega (arith, length-replicate c.in-Idle.count Idle, (subst (λ (w : Turn). turns_of w ≤ c.args.left) c.in-Idle.is c.in-Ok.ensures.most))) (idle_cut g.S.System.means the_lists g.D.Drum.held g.T.Taker.stands g.T.Taker.cut c.args.waits.now.auto c.in-Idle.count c.args.waits.now.system c.turns.new.self.system c.args.drum.now c.turns.new.drum c.args.out.now c.give_idle.new.out (subst (λ (w : Turn). Turned g.S.System.means the_lists g.D.Drum.held c.args.waits.now.auto c.args.waits.now.system c.turns.new.self.system c.args.drum.now c.turns.new.drum w) c.in-Idle.is c.in-Ok.ensures.turned) c.in-Err-give_idle.ensures.err)
 
 pub returns-in-Err-clause-took : goal.returns-in-Err-clause-took
 returns-in-Err-clause-took g c =
-    took_stopped g.S.System.means g.D.Drum.held g.T.Taker.stands g.T.Taker.cut c.args.waits.now.auto c.args.left c.args.waits.now.system c.turns.new.self.system c.args.drum.now c.turns.new.drum c.args.out.now c.args.out.now [] tt (omega arith) (so_far g.S.System.means g.D.Drum.held g.T.Taker.stands g.T.Taker.cut c.args.waits.now.auto (Run c.args.left) c.args.waits.now.system c.args.waits.now.system c.args.drum.now c.args.drum.now c.args.out.now c.args.out.now [] (over_none g.S.System.means g.D.Drum.held g.T.Taker.stands g.T.Taker.cut c.args.waits.now.auto c.args.waits.now.system c.args.drum.now c.args.out.now))
+    took_stopped g.S.System.means g.D.Drum.held g.T.Taker.stands g.T.Taker.cut c.args.waits.now.auto c.args.left c.args.waits.now.system c.turns.new.self.system c.args.waits.now.lists c.turns.new.self.lists c.args.drum.now c.turns.new.drum c.args.out.now c.args.out.now [] tt (omega arith) (so_far g.S.System.means g.D.Drum.held g.T.Taker.stands g.T.Taker.cut c.args.waits.now.auto (Run c.args.left) c.args.waits.now.system c.args.waits.now.system c.args.drum.now c.args.drum.now c.args.out.now c.args.out.now [] (over_none g.S.System.means g.D.Drum.held g.T.Taker.stands g.T.Taker.cut c.args.waits.now.auto c.args.waits.now.system c.args.drum.now c.args.out.now))
 
 pub returns-in-Err-clause-outside : goal.returns-in-Err-clause-outside
 returns-in-Err-clause-outside g c =

@@ -5,7 +5,7 @@ use Rattle.event_deeds.specs.declared.deed.Deed.{Deed}
 use Rattle.paged_events.specs.Typing.{DidPart, ShowedFirst}
 use Rattle.paged_events.specs.declared.fault.Fault.TheVariants.{Drum, Taker}
 use Rattle.paged_events.proofs.Outside.{other_err, outside_nil, uses_failed, uses_then, uses_well}
-use Rattle.paged_events.proofs.Texts.{behind, cut_part, deeds_none, deeds_so, did_none, did_then, effect_of, first_none, part_cut, part_did, part_so, typed_behind, typed_well}
+use Rattle.paged_events.proofs.Texts.{behind, core_then, cut_part, deeds_none, deeds_so, did_none, did_then, effect_of, first_none, part_cut, part_did, part_so, typed_behind, typed_well}
 use Rattle.paged_events.proofs.typing.+deeds.Goals as goal
 
 pub returns-then-left-eq0-clause-typed : goal.returns-then-left-eq0-clause-typed
@@ -28,9 +28,16 @@ pub returns-in-Some-clause-within : goal.returns-in-Some-clause-within
 returns-in-Some-clause-within g n c =
     on_ok_weaker c.deeds.result (λ stays k w. stays k (c.in-Ok.ensures.within k w)) c.deeds.ensures.within
 
+pub returns-in-Some-clause-core : goal.returns-in-Some-clause-core
+returns-in-Some-clause-core g n c =
+    on_ok_weaker c.deeds.result
+    (core_then g.S.System.means g.D.Drum.held g.T.Taker.stands g.T.Taker.cut (λ q. effect_of (deed q c.args.deed.now)) c.args.waits.now.system c.part.new.waits.system c.deeds.new.waits.system c.args.waits.now.lists c.part.new.waits.lists c.deeds.new.waits.lists c.args.drum.now c.part.new.drum c.args.out.now c.part.new.out
+    (part_did g.S.System.means g.D.Drum.held g.T.Taker.stands g.T.Taker.cut c.args.deed.now _ c.args.waits.now.system c.part.new.waits.system c.args.drum.now c.part.new.drum c.args.out.now c.part.new.out c.in-Ok.ensures.did) c.in-Ok.ensures.core)
+    c.deeds.ensures.core
+
 pub returns-in-Some-clause-marks : goal.returns-in-Some-clause-marks
 returns-in-Some-clause-marks g n c =
-    record { limit = c.deeds.ensures.marks.limit ∙ c.part.ensures.marks.limit; auto = c.deeds.ensures.marks.auto ∙ c.part.ensures.marks.auto }
+    record { limit = c.deeds.ensures.marks.limit ∙ c.part.ensures.marks.limit; frames = c.deeds.ensures.marks.frames ∙ c.part.ensures.marks.frames; auto = c.deeds.ensures.marks.auto ∙ c.part.ensures.marks.auto }
 
 pub returns-in-None-clause-typed : goal.returns-in-None-clause-typed
 returns-in-None-clause-typed g n c =

@@ -6,7 +6,7 @@ use Rattle.plain_model.specs.State.{PlainState}
 use Rattle.plain_model.specs.TypeEvents.{typed_all, typed_at}
 use Rattle.paged_events.specs.declared.fault.Fault.TheVariants.{Drum, Taker}
 use Rattle.paged_events.proofs.Outside.{other_err, outside_nil, uses_failed, uses_then, uses_well}
-use Rattle.paged_events.proofs.Texts.{cut_part, did_none, first_part, joined, typed_behind, typed_more, typed_none, typed_well}
+use Rattle.paged_events.proofs.Texts.{core_then, cut_part, did_none, first_part, joined, typed_behind, typed_more, typed_none, typed_well}
 use Rattle.paged_events.proofs.typing.+type_text.Goals as goal
 
 -- nothing is left behind the last
@@ -46,9 +46,16 @@ pub returns-in-Ok-clause-within : goal.returns-in-Ok-clause-within
 returns-in-Ok-clause-within g n c =
     on_ok_weaker c.type_text.result (λ stays k w. stays k (c.in-Ok.ensures.within k w)) c.type_text.ensures.within
 
+pub returns-in-Ok-clause-core : goal.returns-in-Ok-clause-core
+returns-in-Ok-clause-core g n c =
+    on_ok_weaker c.type_text.result
+    (core_then g.S.System.means g.D.Drum.held g.T.Taker.stands g.T.Taker.cut (λ q. typed_at q c.args.t (get_or c.args.text.now (length c.args.text.now - c.args.left) 0)) c.args.waits.now.system c.type_one.new.waits.system c.type_text.new.waits.system c.args.waits.now.lists c.type_one.new.waits.lists c.type_text.new.waits.lists c.args.drum.now c.type_one.new.drum c.args.out.now c.type_one.new.out
+    c.in-Ok.ensures.typed.ok c.in-Ok.ensures.core)
+    c.type_text.ensures.core
+
 pub returns-in-Ok-clause-marks : goal.returns-in-Ok-clause-marks
 returns-in-Ok-clause-marks g n c =
-    record { limit = c.type_text.ensures.marks.limit ∙ c.type_one.ensures.marks.limit; auto = c.type_text.ensures.marks.auto ∙ c.type_one.ensures.marks.auto }
+    record { limit = c.type_text.ensures.marks.limit ∙ c.type_one.ensures.marks.limit; frames = c.type_text.ensures.marks.frames ∙ c.type_one.ensures.marks.frames; auto = c.type_text.ensures.marks.auto ∙ c.type_one.ensures.marks.auto }
 
 pub returns-in-Err-clause-typed : goal.returns-in-Err-clause-typed
 returns-in-Err-clause-typed g n c =

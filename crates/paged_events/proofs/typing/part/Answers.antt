@@ -1,4 +1,4 @@
-use Rattle.std.proofs.Common.{◌≡◌, ◌+◌, ◌^◌, ℕ, List, [], refl, sym, ◌∙◌, ap, subst, arith}
+use Rattle.std.proofs.Common.{◌≡◌, ◌+◌, ◌^◌, ℕ, List, [], inl, refl, sym, ◌∙◌, ap, subst, arith}
 use Rattle.event_deeds.specs.Deeds.{IsTold, entries_of}
 use Rattle.event_deeds.specs.declared.deed.Deed.{Deed}
 use Rattle.event_deeds.specs.declared.deed.Deed.TheVariants.{Begin, End, Kill, Outer, Typed}
@@ -55,6 +55,9 @@ pub returns-in-Ok-give-clause-within : goal.returns-in-Ok-give-clause-within
 returns-in-Ok-give-clause-within g c k w =
     let all : k + entries_of c.args.deed.now ≡ k = let none = part_none c.args.deed.now c.requires.part.1 in omega (arith, none) in
     subst (g.S.System.means.within c.bring_told.new.self.system) all (c.in-Ok.ensures.within k w)
+
+pub returns-in-Ok-give-clause-core : goal.returns-in-Ok-give-clause-core
+returns-in-Ok-give-clause-core g c frames d st fits core = c.in-Ok.ensures.calm frames d fits core (inl c.requires.part)
 
 pub returns-in-Ok-give-clause-outside : goal.returns-in-Ok-give-clause-outside
 returns-in-Ok-give-clause-outside g c =

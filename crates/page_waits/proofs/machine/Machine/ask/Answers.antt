@@ -160,3 +160,9 @@ returns-in-Err-clause-calm g c frames d fits core which =
     none_needed g.S.System.means frames x old c.deed.new.self c.args.self.now.lists c.in-Err.need core c.in-Err.ensures.needs
     (⊎_elim (λ part. λ is. c.in-Err.ensures.unframed part (ap Err is))
     (λ roomy. no_frame g.S.System.means frames x old c.deed.new.self c.args.self.now.lists c.in-Err.need core c.in-Err.ensures.needs d housed.sound (g.met.S.System.lives old d fits) roomy) which)
+
+pub returns-in-Ok-clause-frames : goal.returns-in-Ok-clause-frames
+returns-in-Ok-clause-frames g c = c.release_left.ensures.there.framed.frames ∙ c.tell.ensures.there.framed.frames ∙ c.let_go.ensures.lets_go.stays.framed.frames ∙ c.in-Ok.ensures.did.loses.frames
+
+pub returns-in-Err-clause-frames : goal.returns-in-Err-clause-frames
+returns-in-Err-clause-frames g c = c.fetch.ensures.fetched.frames ∙ c.in-Err.ensures.needs.stored.frames

@@ -87,7 +87,7 @@ loop-waits-preserved-in-Err g c =
       writes = i.writes;
       within = λ n w. still.told.within n (i.within n w);
       silent = subst (λ (l : ForkLists). MovesSilently old.lists.sched l.sched) (sym (c.in-Err.ensures.stays need refl)) i.silent;
-      marks = marks_then old mid new i.marks (record { limit = c.ask.ensures.limit; auto = c.ask.ensures.mark });
+      marks = marks_then old mid new i.marks (record { limit = c.ask.ensures.limit; frames = c.ask.ensures.frames; auto = c.ask.ensures.mark });
       calm = λ frames d fits core which. absurd (done frames d fits core which);
       first = λ frames d fits core which. absurd (done frames d fits core which);
     }

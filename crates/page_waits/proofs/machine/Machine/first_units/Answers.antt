@@ -39,6 +39,7 @@ loop-head-preserved g c =
       seated = c.plan.ensures.seated none ∙ i.seated;
       within = λ n w. still.told.within n (i.within n w);
       limit = c.plan.ensures.limit ∙ i.limit;
+      frames = c.plan.ensures.frames ∙ i.frames;
       bare = c.plan.ensures.bare;
       calm = λ frames d fits core roomy.
           absurd (from_calm g.S.System.means IsRoomy old.system mid.system old.lists mid.lists i.calm frames d fits core roomy (λ t m. ⊥)

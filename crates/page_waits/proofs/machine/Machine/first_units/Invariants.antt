@@ -2,7 +2,7 @@ use Rattle.std.proofs.Common.{◌≡◌, ℕ, length}
 use Rattle.std.specs.Prelude.{None}
 use Rattle.page_waits.specs.Acts.{Still}
 use Rattle.page_waits.specs.Calm.{IsRoomy}
-use Rattle.page_waits.specs.Machines.{IsBare, auto, limit}
+use Rattle.page_waits.specs.Machines.{IsBare, auto, frames, limit}
 use Rattle.page_waits.specs.Told.{MovesSilently}
 use Rattle.page_waits.specs.Waits.{the_lists}
 use Rattle.page_waits.proofs.InCore.{Untouched}
@@ -16,6 +16,7 @@ invariant-loop-head g l = record {
   seated : the_lists.member l.self.lists ≡ the_lists.member l.fn.self.lists;
   within : (n : ℕ) → g.S.System.means.within l.fn.self.system n → g.S.System.means.within l.self.system n;
   limit : limit l.self ≡ limit l.fn.self;
+  frames : frames l.self ≡ frames l.fn.self;
   bare : IsBare l.self;
   calm : Untouched g.S.System.means IsRoomy l.fn.self.system l.self.system l.fn.self.lists l.self.lists;
 }

@@ -111,7 +111,7 @@ loop-u-preserved g c =
           (silent_arrival planned.lists.sched new.lists.sched need (c.in-Done.ensures.told need refl));
       seated = c.complete.ensures.seated ∙ c.first_units.ensures.seated none ∙ i.seated;
       within = λ n w. quiet.told.within n (still.told.within n (i.within n w));
-      marks = marks_then old mid new i.marks (marks_then mid planned new (record { limit = c.first_units.ensures.limit; auto = c.first_units.ensures.mark }) c.complete.ensures.marks);
+      marks = marks_then old mid new i.marks (marks_then mid planned new (record { limit = c.first_units.ensures.limit; frames = c.first_units.ensures.frames; auto = c.first_units.ensures.mark }) c.complete.ensures.marks);
       bare = c.complete.ensures.bare c.first_units.ensures.bare;
       calm = λ frames d fits core roomy.
           let idled = from_idle means IsRoomy old.system mid.system old.lists mid.lists i.calm frames d fits core roomy planned.system planned.lists c.first_units.result (c.first_units.ensures.calm frames d) none in

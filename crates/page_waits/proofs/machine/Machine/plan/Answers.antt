@@ -1,6 +1,7 @@
 use Rattle.fork_lists.specs.Following.{last_counted}
 use Rattle.job_sched.specs.Schedules.{Schedule, waited}
 use Rattle.job_sched.specs.Units.{row_ran}
+use Rattle.job_sched.proofs.Alone.{fewer}
 use Rattle.plain_model.specs.Moves.{moves}
 use Rattle.turn_forms.specs.Turns.{moved}
 use Rattle.page_waits.specs.Told.{LastCounted}
@@ -54,6 +55,7 @@ returns-in-Ok-clause-did g c =
           let y = did.each d fits in
           let z = state.each d y.0 in
           (z.fits, y.1, z.plain ∙ y.2, ap (λ p. g.S.System.means.items p (showing.Reply c.in-Ok.progress.reply)) z.plain ∙ y.3, state.gives d (showing.Reply c.in-Ok.progress.reply) y.0 y.4);
+      runs = did.runs;
     }
 
 pub returns-in-Ok-clause-bare : goal.returns-in-Ok-clause-bare
@@ -139,6 +141,7 @@ returns-in-Ok-clause-calm g c frames d fits core roomy =
     let behind = core_kept g.S.System.means frames c.args.self.now.system c.units.new.self c.args.self.now.lists c.units.new.lists core c.in-Ok.ensures.did.loses c.in-Ok.ensures.waits in
     record {
       head = c.requires.heads;
+      within = fewer c.in-Ok.progress.count c.most_units-most.result c.args.self.now.lists.sched c.most_units-most.ensures.row c.in-Ok.ensures.few;
       lists =
           c.finish-ended.ensures.calm frames behind
           ∙ ap (last_counted c.args.head.fork) (c.in-Ok.ensures.moved ∙ ap (λ (t : PlainTree). moved (moves forks t.forks) row) (sym c.finish-ended.ensures.state.told.tree));
@@ -151,3 +154,9 @@ returns-in-Err-clause-calm g c frames d fits core roomy =
     let housed = g.met.S.System.housed old in
     none_needed g.S.System.means frames (unit_of c.args.head.fork) old c.units.new.self c.args.self.now.lists c.in-Err.need core c.in-Err.ensures.needs
     (no_frame g.S.System.means frames (unit_of c.args.head.fork) old c.units.new.self c.args.self.now.lists c.in-Err.need core c.in-Err.ensures.needs d housed.sound (g.met.S.System.lives old d fits) roomy)
+
+pub returns-in-Ok-clause-frames : goal.returns-in-Ok-clause-frames
+returns-in-Ok-clause-frames g c = c.finish-ended.ensures.frames ∙ c.in-Ok.ensures.did.loses.frames
+
+pub returns-in-Err-clause-frames : goal.returns-in-Err-clause-frames
+returns-in-Err-clause-frames g c = c.fetch-awaited.ensures.fetched.frames ∙ c.in-Err.ensures.needs.stored.frames

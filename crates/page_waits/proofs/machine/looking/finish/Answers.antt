@@ -81,3 +81,6 @@ returns-clause-core g c frames core =
     (there_then store c.args.system.now c.let_go.new.self c.release_left.new.system gone.stays (there_then store c.let_go.new.self c.tell.new.system c.release_left.new.system c.tell.ensures.there left.there))
     (left.queued.queue ∙ c.tell.ensures.queue ∙ gone.queued.queue) (left.queued.untold ∙ c.tell.ensures.told)
     (ap (λ (s : Schedule). s.waiting) c.count_last-ended.ensures.schedule ∙ counted_waiting c.args.head.fork c.tell.new.lists.sched ∙ ap (λ (l : ForkLists). l.sched.waiting) (c.tell.ensures.none (gone.queued.untold ∙ core.told)))
+
+pub returns-clause-frames : goal.returns-clause-frames
+returns-clause-frames g c = c.release_left.ensures.there.framed.frames ∙ c.tell.ensures.there.framed.frames ∙ c.let_go.ensures.lets_go.stays.framed.frames

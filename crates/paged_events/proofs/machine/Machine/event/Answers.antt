@@ -24,11 +24,12 @@ act-requires-clause-within g c k low = c.requires.within k (omega (arith, low, c
 
 pub returns-in-Ok-clause-went : goal.returns-in-Ok-clause-went
 returns-in-Ok-clause-went g c is =
-    let given = c.in-Ok.ensures.acted.ok in
-    record { steps = given.steps; follows = given.follows; count = omega (arith, given.counts); told = given.told }
+    let acted = c.in-Ok.ensures.acted.ok in
+    let given = acted.given in
+    record { steps = given.steps; follows = given.follows; count = omega (arith, given.counts); told = given.told; calm = acted.calm }
 
 pub returns-in-Ok-clause-within : goal.returns-in-Ok-clause-within
-returns-in-Ok-clause-within g c is k low = c.in-Ok.ensures.acted.ok.adds c.args.self.now.done c.requires.within k (omega (arith, low))
+returns-in-Ok-clause-within g c is k low = c.in-Ok.ensures.acted.ok.given.adds c.args.self.now.done c.requires.within k (omega (arith, low))
 
 pub returns-in-Ok-clause-later : goal.returns-in-Ok-clause-later
 returns-in-Ok-clause-later g c = c.act.ensures.outside.later.taker_later
