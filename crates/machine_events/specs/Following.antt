@@ -21,7 +21,8 @@ use Rattle.step_shown.specs.declared.reach.Reach.{Reach}
 use Rattle.step_shown.specs.declared.reach.Reach.TheVariants.{Own, Made, Job}
 use Rattle.step_shown.specs.Reaching.{Reaches}
 use Rattle.step_shown.specs.Runners.{IsRunner}
-use Rattle.monitor_core.specs.Reaching.{BeginsJob, ChangesJob, EchoReaches, EventReaches}
+use Rattle.monitor_core.specs.Reaching.{BeginsJob, ChangesJob, EventReaches}
+use Rattle.monitor_typing.specs.Reaching.{EchoReaches}
 
 -- a fork is the head of the ready list
 pub record IsHead (s : Schedule) (f : ForkName) : Type 0 where

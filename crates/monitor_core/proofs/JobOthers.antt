@@ -1,34 +1,23 @@
 -- Which forks stay, and that each is in its slot, where the top fork of a terminal's job is changed, or one is made there.
-use Rattle.std.proofs.Common.{◌≡◌, ℕ, ◌<◌, ◌≤◌, Bool, Option, None, Some, true, false, inl, inr, refl, ap, sym, ◌∙◌, subst}
+use Rattle.std.proofs.Common.{◌≡◌, ℕ, ◌<◌, ◌≤◌, Option, None, Some, inl, inr, refl, ap, sym, ◌∙◌, subst}
 use Rattle.std.proofs.lemmas.Bool.{cases_lt}
-use Rattle.std.specs.Prelude.{if◌then◌else◌}
 use Rattle.std.specs.Option.{option_map, option_map_or}
 use Rattle.std.specs.FinMap as map
-use Rattle.machine_names.specs.declared.names.ForkName.{ForkName}
 use Rattle.machine_names.specs.declared.names.TheConstants.{ACCUMULATORS}
 use Rattle.machine_names.specs.declared.names.Tty.{Tty}
 use Rattle.plain_model.specs.declared.fork.Fork.{Fork}
-use Rattle.plain_model.specs.declared.fork.TerminalMode.{TerminalMode}
-use Rattle.plain_model.specs.declared.fork.TerminalMode.TheVariants.{Command, Program}
 use Rattle.plain_model.specs.Forks.{ForkMap, OthersStay}
-use Rattle.plain_model.specs.Interrupts.{channels_of}
-use Rattle.plain_model.specs.Posting.{with_all_posted}
-use Rattle.plain_model.specs.Trees.{PlainTree, changed, free_slot, new_fork, next_name, readers_woken, with_changed_of, with_mark}
+use Rattle.plain_model.specs.Trees.{PlainTree, changed, free_slot, new_fork, next_name, with_changed_of}
 use Rattle.plain_model.proofs.ForkMaps.{cases_name, get_put, get_put_other}
-use Rattle.plain_model.proofs.OtherJobs.{named_others, others_alike, others_itself, posted_others, put_others, readers_job}
+use Rattle.plain_model.proofs.OtherJobs.{named_others, others_alike, others_itself, put_others}
 use Rattle.fork_tree.specs.Making.{with_new, with_new_in}
 use Rattle.fork_tree.specs.Trees.{AreSlotted, IsTree}
 use Rattle.fork_tree.proofs.Kept.{name_unused}
 use Rattle.fork_tree.proofs.Slots.{held_lives}
 use Rattle.job_forks.specs.Holding.{ComeFrom, SamePlaces}
-use Rattle.psi_calls.proofs.PostedKeeps.{channels_keep}
-use Rattle.step_shown.specs.declared.echo.Echo.{Echo}
-use Rattle.step_shown.specs.declared.echo.Echo.TheVariants.{Shows, Wakes}
 use Rattle.monitor_calls.specs.declared.job.Job.{Job}
 use Rattle.monitor_core.specs.declared.system.System.{System}
-use Rattle.monitor_core.specs.Effects.{stopped_tree}
-use Rattle.monitor_core.specs.Reaching.{BeginsJob, ChangesJob, EchoReaches, WereInSlots}
-use Rattle.monitor_core.proofs.CommandDid.{readers_keep}
+use Rattle.monitor_core.specs.Reaching.{BeginsJob, ChangesJob, WereInSlots}
 use Rattle.monitor_calls.specs.Jobs.{job_at}
 use Rattle.turn_forms.specs.Turns.{KeepSlots}
 
@@ -38,11 +27,11 @@ pub slots_itself : (m : ForkMap) → WereInSlots m m
 slots_itself m f h is = ap (option_map (λ (g : Fork). g.slot)) is
 
 -- the same forks live, each in its slot
-slots_placed : (old new : ForkMap) → SamePlaces old new → WereInSlots old new
+pub slots_placed : (old new : ForkMap) → SamePlaces old new → WereInSlots old new
 slots_placed old new same f h is = sym (same f) ∙ ap (option_map (λ (g : Fork). g.slot)) is
 
 -- each that lives stands where one stood of its name
-slots_came : (old new : ForkMap) → AreSlotted new → ComeFrom old new → WereInSlots old new
+pub slots_came : (old new : ForkMap) → AreSlotted new → ComeFrom old new → WereInSlots old new
 slots_came old new slotted come f h is =
     let named : h.name ≡ f = slotted.own f h is in
     let c = come h (held_lives new slotted f h is) in
@@ -93,12 +82,8 @@ job_on t a b c first second = (λ name other. second.0 name other ∙ first.0 na
 
 module _ {P : Type 0} {b : _} (m : System P b) (t : Tty) (j : Job) (at : job_at m.jobs.items t.0 ≡ Some j) where
   -- its top fork is of the terminal
-  top_others : (new : ForkMap) → OthersStay j.top.tty m.tree.forks new → OthersStay t m.tree.forks new
+  pub top_others : (new : ForkMap) → OthersStay j.top.tty m.tree.forks new → OthersStay t m.tree.forks new
   top_others new stay = others_alike t j.top.tty m.tree.forks new (m.sound.each_job t.0 j at).terminal stay
-
-  -- each fork that is left stands where it stood
-  pub top_left : (new : ForkMap) → AreSlotted new → ComeFrom m.tree.forks new → OthersStay j.top.tty m.tree.forks new → ChangesJob t m.tree.forks new
-  top_left new slotted come stay = (top_others new stay, slots_came m.tree.forks new slotted come)
 
   pub top_changed : IsTree m.tree → (change : Fork → Fork) → ((k : Fork) → (change k).slot ≡ k.slot) → (new : PlainTree) → new ≡ with_changed_of m.tree j.top change → ChangesJob t m.tree.forks new.forks
   top_changed trees change still new is =
@@ -107,11 +92,6 @@ module _ {P : Type 0} {b : _} (m : System P b) (t : Tty) (j : Job) (at : job_at 
       let slots = slots_changed forks change still (map.get forks j.top) (λ k there. held_lives forks trees.slotted j.top k there) in
       subst (λ (x : PlainTree). ChangesJob t forks x.forks) (sym is) (top_others whole (named_others m.tree trees.slotted.own j.top change), slots)
 
-  -- it is stopped
-  pub top_stopped : IsTree m.tree → (mode : TerminalMode) (new : PlainTree) → new ≡ stopped_tree mode m.tree j.top → ChangesJob t m.tree.forks new.forks
-  top_stopped trees Program new is = top_changed trees (with_mark true) (λ k. refl) new is
-  top_stopped trees Command new is = job_same t m.tree.forks new.forks (ap (λ (x : PlainTree). x.forks) is)
-
   -- a word is put into an accumulator of it, or into a page
   pub top_poked : IsTree m.tree → (address : ℕ) (change : Fork → Fork) → ((k : Fork) → (change k).slot ≡ k.slot) → (new : PlainTree) → (address < ACCUMULATORS → new ≡ with_changed_of m.tree j.top change)
       → (ACCUMULATORS ≤ address → new ≡ m.tree) → ChangesJob t m.tree.forks new.forks
@@ -119,25 +99,6 @@ module _ {P : Type 0} {b : _} (m : System P b) (t : Tty) (j : Job) (at : job_at 
     | inl below ↦ top_changed trees change still new (low below)
     | inr above ↦ job_same t m.tree.forks new.forks (ap (λ (x : PlainTree). x.forks) (high above))
   ]
-
--- who waits for a character of a job runs again
-pub readers_change : (tree new : PlainTree) → IsTree tree → (t : Tty) → new ≡ record tree { forks = readers_woken tree.forks t } → ChangesJob t tree.forks new.forks
-readers_change tree new trees t is =
-    let own = trees.slotted.own in
-    subst (λ (x : PlainTree). ChangesJob t tree.forks x.forks) (sym is) ((readers_job tree.forks own t).others, slots_placed tree.forks (readers_woken tree.forks t) (readers_keep tree.forks own t).same)
-
--- so a character that is stored reaches forks of the job where it may have woken one, and else none
-pub stored_reaches : (t : Tty) (may : Bool) (code : ℕ) (shown : Echo) → shown ≡ (if may then Wakes code else Shows code) → (old new : ForkMap) → (may ≡ false → new ≡ old) → ChangesJob t old new → EchoReaches t shown old new
-stored_reaches t true code shown is old new none changes = subst (λ e. EchoReaches t e old new) (sym is) changes
-stored_reaches t false code shown is old new none changes = subst (λ e. EchoReaches t e old new) (sym is) (none refl)
-
--- channels are posted to a fork of a name
-pub posts_change : (tree new : PlainTree) → IsTree tree → (name : ForkName) (word : ℕ) → new ≡ record tree { forks = option_map_or (with_all_posted tree.forks (channels_of word)) (map.get tree.forks name) tree.forks }
-    → ChangesJob name.tty tree.forks new.forks
-posts_change tree new trees name word is =
-    let own = trees.slotted.own in
-    let posted = option_map_or (with_all_posted tree.forks (channels_of word)) (map.get tree.forks name) tree.forks in
-    subst (λ (x : PlainTree). ChangesJob name.tty tree.forks x.forks) (sym is) (posted_others tree.forks own name (channels_of word), slots_placed tree.forks posted (channels_keep tree.forks own word name).same)
 
 -- a top fork is made, under a name that nobody had
 pub made_begins : (tree new : PlainTree) → IsTree tree → (t : Tty) (superior : Option ℕ) → new ≡ with_new tree t superior → BeginsJob t tree.forks new.forks

@@ -1,30 +1,21 @@
 mod Rooms
 mod Filed
 mod Inspected
-mod NamedPages
+pub mod NamedPages
 mod FileReferences
 pub mod FileDid
-mod Told
+pub mod Told
 pub mod Systems
 mod Running
 mod CallerStays
-mod UnitEffect
+pub mod UnitEffect
 mod Rows
-mod UnitDid
-mod PostDid
+pub mod UnitDid
 pub mod JobDid
 mod Logins
 pub mod EventDid
 pub mod BootDid
-mod HasDone
-mod CharacterDid
-mod CharacterParts
-mod DeleteDid
-mod EndDid
-mod TypeDid
-mod CommandPages
-mod CommandDid
-mod Commanded
+pub mod SoundKept
 mod Sleepers
 pub mod JobOthers
 mod NeedsFirst

@@ -1,7 +1,5 @@
 pub mod JobEvents
 pub mod Systems
 pub mod Transfers
-pub mod Effects
 pub mod Needing
-pub mod Deeds
 pub mod Reaching

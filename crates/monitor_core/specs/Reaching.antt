@@ -1,4 +1,4 @@
--- How far an event, a character and a part of one reach among the forks, whatever a drum holds.
+-- How far an event reaches among the forks, whatever a drum holds.
 use Rattle.std.specs.Prelude.{◌≡◌, ℕ, Some}
 use Rattle.std.specs.Option.{option_map}
 use Rattle.std.specs.FinMap as map
@@ -9,10 +9,6 @@ use Rattle.script_texts.specs.declared.event.Event.TheVariants.{Login, Poke, Sta
 use Rattle.plain_model.specs.declared.fork.Fork.{Fork}
 use Rattle.plain_model.specs.Forks.{ForkMap, OthersStay}
 use Rattle.plain_model.specs.Trees.{PlainTree, sleepers_awoken}
-use Rattle.event_deeds.specs.declared.answer.Showing.{Showing}
-use Rattle.event_deeds.specs.declared.answer.Showing.TheVariants.{Reply, Echo, Told}
-use Rattle.step_shown.specs.declared.echo.Echo.{Echo as Echoed}
-use Rattle.step_shown.specs.declared.echo.Echo.TheVariants.{Bell, Ends, Nothing, Posts, Shows, Stops, Wakes}
 use Rattle.turn_forms.specs.Turns.{KeepSlots}
 
 -- each fork that lives was there before, in the slot in which it is
@@ -37,20 +33,3 @@ EventReaches (Examine t serial address) clock old new = ChangesJob t old.forks n
 EventReaches (Forks t) clock old new = ChangesJob t old.forks new.forks
 EventReaches Tick clock old new = new ≡ record old { forks = sleepers_awoken clock old.forks }
 EventReaches e clock old new = new ≡ old
-
--- how far a character may reach that is typed at a terminal and shows this: one that wakes nobody, or is lost, leaves all as it was; one that
--- posts a channel changes forks of that fork's job, and any other those of the terminal's
-abbrev pub EchoReaches : Tty → Echoed → ForkMap → ForkMap → Type 0
-EchoReaches t (Shows code) old new = new ≡ old
-EchoReaches t Bell old new = new ≡ old
-EchoReaches t (Posts u stop) old new = ChangesJob u old new
-EchoReaches t Nothing old new = ChangesJob t old new
-EchoReaches t (Wakes code) old new = ChangesJob t old new
-EchoReaches t Stops old new = ChangesJob t old new
-EchoReaches t (Ends told) old new = ChangesJob t old new
-
--- and a part of a character that shows this
-abbrev pub PartReaches : Showing → ForkMap → ForkMap → Type 0
-PartReaches (Reply reply) old new = ⊥
-PartReaches (Echo t shown) old new = EchoReaches t shown old new
-PartReaches (Told t shown) old new = ChangesJob t old new

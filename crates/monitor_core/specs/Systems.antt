@@ -3,6 +3,8 @@ use Rattle.std.specs.Prelude.{◌≡◌, ℕ, ◌+◌, ◌*◌, ◌<◌, ◌≤�
 use Rattle.machine_names.specs.declared.names.Tty.{Tty}
 use Rattle.machine_names.specs.declared.names.ForkName.{ForkName}
 use Rattle.plain_model.specs.declared.fork.Fork.{Fork}
+use Rattle.script_texts.specs.declared.event.Event.{Event}
+use Rattle.script_texts.specs.declared.event.Event.TheVariants.{TypeIn}
 use Rattle.script_texts.specs.declared.event.Step.{Step}
 use Rattle.script_texts.specs.declared.event.Step.TheVariants.{Outer, Unit as AUnit, Idle}
 use Rattle.machine_names.specs.Orders.{name_cmp}
@@ -60,6 +62,11 @@ abbrev pub CanDo : {P : Type 0} {b : _} → System P b → Step → Type 0
 CanDo m (Outer e) = FitsStep (Outer e)
 CanDo m (AUnit f) = IsRunnable m.tree.forks f
 CanDo m Idle = (f : ForkName) → IsRunnable m.tree.forks f → ⊥
+
+-- an event that isn't given character by character
+abbrev pub IsAtOnce : Event → Type 0
+IsAtOnce (TypeIn t text) = ⊥
+IsAtOnce e = Unit {0}
 
 -- a step is done: over each drum that fits, the system stands for the state that the step leaves, and the reply is what it shows; what is queued and held may have
 -- become less

@@ -16,7 +16,7 @@ use Rattle.event_deeds.specs.declared.answer.Showing.TheVariants.{Echo, Reply, T
 use Rattle.event_deeds.specs.declared.deed.Deed.{Deed}
 use Rattle.event_deeds.specs.declared.deed.Deed.TheVariants.{Begin, End, Kill, Outer, Typed}
 use Rattle.step_shown.specs.declared.reply.Reply.{Reply as AReply}
-use Rattle.monitor_core.specs.Deeds.{Does, FitsAnswer, FitsPart}
+use Rattle.monitor_typing.specs.Deeds.{Does, FitsAnswer, FitsPart}
 use Rattle.monitor_core.specs.Needing.{CanShow}
 use Rattle.monitor_core.specs.Systems.{Did, FitsPages, IsWithin, Waits, event_frames}
 use Rattle.page_waits.specs.Seats.{has}

@@ -36,7 +36,7 @@ use Rattle.monitor_calls.specs.declared.job.Job.{Job}
 use Rattle.monitor_calls.specs.Jobs.{job_at, jobs_of, plain_job}
 use Rattle.monitor_calls.specs.Typings.{typing_at}
 use Rattle.monitor_calls.proofs.Lookups.{job_found}
-use Rattle.monitor_core.specs.Deeds.{PartNeeds}
+use Rattle.monitor_typing.specs.Deeds.{PartNeeds}
 use Rattle.monitor_core.specs.Needing.{EventNeeds, IsFileAway}
 use Rattle.monitor_core.specs.Systems.{FitsPages}
 use Rattle.step_wants.specs.Homes.{DeedNeeds, SeeingNeeds}

@@ -10,7 +10,8 @@ use Rattle.fork_lists.specs.declared.lists.ForkLists.{ForkLists}
 use Rattle.fork_lists.specs.Ties.{AreTied}
 use Rattle.job_sched.specs.Schedules.{Schedule}
 use Rattle.event_deeds.specs.declared.answer.Showing.{Showing}
-use Rattle.monitor_core.specs.Reaching.{BeginsJob, ChangesJob, EventReaches, PartReaches}
+use Rattle.monitor_core.specs.Reaching.{BeginsJob, ChangesJob, EventReaches}
+use Rattle.monitor_typing.specs.Reaching.{PartReaches}
 use Rattle.turn_forms.specs.Turns.{moved}
 
 -- the lists had those that could run among forks that became these

@@ -17,6 +17,7 @@ use crate::following::{follow_event, follow_part};
 use crate::paged::Paged;
 use event_deeds::{Answer, Deed, Showing};
 use fork_lists::ForkLists;
+use monitor_typing::part;
 use page_contracts::{Need, Pages};
 use script_texts::Event;
 use step_wants::{homes_are_of_pages, the_tables_tell, what_is_needed_is_wanted};
@@ -68,7 +69,7 @@ impl<P: Pages> Paged<P> {
     {
         the_tables_tell();
         self.system.trees();
-        match self.system.part(deed) {
+        match part(&mut self.system, deed) {
             Ok(answer) => {
                 follow_part(lists, self.system.forks(), &answer.showing);
                 Ok(answer)

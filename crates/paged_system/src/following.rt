@@ -6,7 +6,7 @@ ghost use Rattle.job_sched.specs.Schedules.{size};
 ghost use Rattle.job_sched.specs.Ties.{WaitsLess};
 ghost use Rattle.machine_events.specs.Following.{RowEnded};
 ghost use Rattle.machine_names.specs.Bounds.{IsTerminal};
-ghost use Rattle.monitor_core.specs.Deeds.{FitsPart};
+ghost use Rattle.monitor_typing.specs.Deeds.{FitsPart};
 ghost use Rattle.plain_model.specs.Moves.{moves};
 ghost use Rattle.plain_model.specs.Trees.{PlainTree};
 ghost use Rattle.script_texts.specs.Limits.{FitsEvent};

@@ -23,5 +23,3 @@ mod memory_run;
 mod same;
 #[cfg(test)]
 mod scripts;
-#[cfg(test)]
-mod typed;

@@ -7,8 +7,7 @@ ghost use Rattle.plain_model.specs.Forks.{IsRunnable};
 ghost use Rattle.job_sched.specs.Units.{IsRow};
 ghost use Rattle.machine_events.specs.Following.{IsHead};
 ghost use Rattle.step_shown.specs.Runners.{IsRunner};
-ghost use Rattle.monitor_core.specs.Effects.{IsAtOnce};
-ghost use Rattle.monitor_core.specs.Systems.{CanDo};
+ghost use Rattle.monitor_core.specs.Systems.{CanDo, IsAtOnce};
 ghost use Rattle.machine_events.specs.Machines.{done};
 ghost use Rattle.machine_events.specs.Acts.{Acted, TookTurns};
 

@@ -10,6 +10,7 @@ use crate::giving::{give_all, give_echo};
 use crate::machine::Machine;
 use crate::machine::following::follow_typed;
 use machine_names::{Tty, TypedText};
+use monitor_typing::type_one;
 use outside::Failed;
 use page_contracts::Pages;
 use script_texts::{Event, Item, Refusal, Step, Taker};
@@ -24,7 +25,7 @@ impl<P: Pages> Machine<P> {
     {
         for code in text {
             self.system.trees();
-            let shown = self.system.type_one(t, *code);
+            let shown = type_one(&mut self.system, t, *code);
             follow_typed(&mut self.lists, self.system.forks(), t, &shown);
             give_echo(&self.system, t, shown, out)?;
         }

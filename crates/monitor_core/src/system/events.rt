@@ -1,13 +1,13 @@
 // Events that are one step.
 ghost use Rattle.std.specs.Prelude.{◌≡◌, ◌^◌, IfErr, IfOk, IsOk, true};
+ghost use Rattle.fork_tree.specs.Trees.{IsTree};
 ghost use Rattle.script_texts.specs.Limits.{FitsStep};
 ghost use Rattle.script_texts.specs.declared.event.Event.{Event as AnEvent};
 ghost use Rattle.script_texts.specs.declared.event.Step.{Step as AStep};
 ghost use Rattle.monitor_core.specs.Reaching.{EventReaches};
 ghost use Rattle.step_shown.specs.Replies.{reply_of};
-ghost use Rattle.monitor_core.specs.Effects.{IsAtOnce};
+ghost use Rattle.monitor_core.specs.Systems.{CanDo, Did, IsAtOnce, IsWithin, Waits, event_frames};
 ghost use Rattle.monitor_core.specs.Needing.{CanShow, EventNeeds};
-ghost use Rattle.monitor_core.specs.Systems.{CanDo, Did, IsWithin, Waits, event_frames};
 
 use crate::job_event::JobEvent;
 use crate::system::System;
@@ -80,8 +80,11 @@ impl<P: Pages> System<P> {
         ensures reason { IfErr result (EventNeeds self.new e.now) }
         ensures core { P.means.flat ≡ true → IsOk result }
         ensures reach { EventReaches e.now self.new.panel.clock self.old.tree self.new.tree }
+        ensures trees { IsTree self.new.tree }
     {
-        match self.outer(e) {
+        let done = self.outer(e);
+        self.tree.are_trees();
+        match done {
             Ok(Ok(reply)) => Ok(reply),
             Ok(Err(cause)) => Ok(Reply::One(Item::Refusal(cause))),
             Err(need) => Err(need),

@@ -1,14 +1,16 @@
 // The parts of the system that the layers above look at.
-ghost use Rattle.std.specs.Prelude.{◌≡◌};
+ghost use Rattle.std.specs.Prelude.{◌≡◌, is_some};
+ghost use Rattle.machine_names.specs.Bounds.{IsTerminal};
 ghost use Rattle.plain_model.specs.Forks.{IsRunnable};
 ghost use Rattle.fork_tree.specs.Trees.{IsTree};
 ghost use Rattle.job_forks.specs.Limits.{AreWithin};
+ghost use Rattle.monitor_calls.specs.Jobs.{job_at};
 ghost use Rattle.step_shown.specs.Runners.{IsRunner};
 
 use crate::system::System;
 use file_tables::FileTables;
 use fork_tree::Tree;
-use machine_names::ForkName;
+use machine_names::{ForkName, Tty};
 use page_contracts::Pages;
 use step_shown::Runner;
 
@@ -38,6 +40,14 @@ impl<P: Pages> System<P> {
         ensures { result.now ≡ self.now.pages }
     {
         &self.pages
+    }
+
+    /// Whether a terminal has a job.
+    pub fn has_job(&self, t: Tty) -> bool
+        requires { IsTerminal t }
+        ensures { result ≡ is_some (job_at self.now.jobs.items t.0) }
+    {
+        self.jobs[t.0 as usize].is_some()
     }
 
     /// The forks of each job are a tree. It does nothing when it runs.

@@ -1,5 +1,6 @@
 // Units of a fork in a row, and who is told where it stops.
 ghost use Rattle.std.specs.Prelude.{◌≡◌, ◌<◌, ◌≤◌, ◌^◌, IfErr, IfOk, IsOk, IsSome, if◌then◌else◌, true};
+ghost use Rattle.fork_tree.specs.Trees.{IsTree};
 ghost use Rattle.plain_model.specs.Forks.{OthersStay, fork_in};
 ghost use Rattle.script_texts.specs.declared.event.Step.{Step as AStep};
 ghost use Rattle.monitor_calls.specs.Limits.{unit_frames};
@@ -82,6 +83,7 @@ impl<P: Pages> System<P> {
         ensures reach { IfOk result (λ done. Reaches done.reach who.fork self.old.tree self.new.tree) }
         ensures slots { IfOk result (λ done. KeepSlots self.old.tree.forks self.new.tree.forks) }
         ensures others { OthersStay who.fork.tty self.old.tree.forks self.new.tree.forks }
+        ensures trees { IsTree self.new.tree }
         ensures some { IfOk result (λ done. 1 ≤ done.count) }
         ensures few { IfOk result (λ done. done.count ≤ most) }
     {

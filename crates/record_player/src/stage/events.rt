@@ -4,12 +4,13 @@ ghost use Rattle.machine_names.specs.Bounds.{IsTerminal};
 ghost use Rattle.script_texts.specs.Limits.{FitsEvent, FitsStep};
 ghost use Rattle.script_texts.specs.declared.event.Event.{Event as AnEvent};
 ghost use Rattle.script_texts.specs.declared.event.Step.{Step as AStep};
-ghost use Rattle.monitor_core.specs.Effects.{IsAtOnce};
+ghost use Rattle.monitor_core.specs.Systems.{IsAtOnce};
 ghost use Rattle.record_player.specs.Stages.{PlayedEvent, TypedOut};
 
 use crate::stage::Stage;
 use machine_events::{give_all, give_echo};
 use machine_names::{Tty, TypedText};
+use monitor_typing::type_one;
 use outside::Failed;
 use page_contracts::Pages;
 use script_texts::{Event, Item, Refusal, Step, Taker};
@@ -39,7 +40,7 @@ impl<P: Pages> Stage<P> {
         ensures { TypedOut T.fault_count T.onward T.stands T.cut self.old self.new out.old out.new result t text.now }
     {
         for code in text {
-            let shown = self.system.type_one(t, *code);
+            let shown = type_one(&mut self.system, t, *code);
             give_echo(&self.system, t, shown, out)?;
         }
         Ok(())

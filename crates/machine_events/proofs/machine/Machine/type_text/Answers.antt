@@ -4,7 +4,7 @@ use Rattle.plain_model.specs.TypeEvents.{typed_all}
 use Rattle.fork_lists.specs.Ties.{AreTied}
 use Rattle.job_sched.specs.Ties.{WaitsLess}
 use Rattle.job_sched.proofs.Waits.{less_none}
-use Rattle.monitor_core.specs.Reaching.{EchoReaches}
+use Rattle.monitor_typing.specs.Reaching.{EchoReaches}
 use Rattle.plain_model.specs.Unit.{Effect}
 use Rattle.script_texts.specs.Taker.{GoesOn}
 use Rattle.script_texts.proofs.Takers.{goes_on_append, goes_on_nil, onward_nil, onward_then}
@@ -62,12 +62,12 @@ loop-code-preserved g c =
       left = λ d f.
           let x = i.left d f in
           let y = has.each d x.0 in
-          (y.0, more_state (plain m d) t text n c.loop-code-test.true (state_of c.loop-code.self.system d) (state_of c.type_one-shown.new.self d) (echo_items t c.type_one-shown.result (state_of c.type_one-shown.new.self d)) x.1 y.1 y.2);
+          (y.0, more_state (plain m d) t text n c.loop-code-test.true (state_of c.loop-code.self.system d) (state_of c.type_one-shown.new.system d) (echo_items t c.type_one-shown.result (state_of c.type_one-shown.new.system d)) x.1 y.1 y.2);
       given = λ d f.
           let x = i.left d f in
           let y = has.each d x.0 in
-          let shown = echo_items t c.type_one-shown.result (state_of c.type_one-shown.new.self d) in
-          subst (λ is. GoesOn g.T.Taker.stands c.args.out.now c.give_echo.new.out is []) (more_items (plain m d) t text n c.loop-code-test.true (state_of c.loop-code.self.system d) (state_of c.type_one-shown.new.self d) shown x.1 y.1 y.2)
+          let shown = echo_items t c.type_one-shown.result (state_of c.type_one-shown.new.system d) in
+          subst (λ is. GoesOn g.T.Taker.stands c.args.out.now c.give_echo.new.out is []) (more_items (plain m d) t text n c.loop-code-test.true (state_of c.loop-code.self.system d) (state_of c.type_one-shown.new.system d) shown x.1 y.1 y.2)
           (goes_on_append g.T.Taker.stands c.args.out.now _ c.give_echo.new.out (typed_all (plain m d) t (take n text)).items shown [] [] (i.given d f) (one.given d).ok);
       count = i.count;
       mark = i.mark;
@@ -95,7 +95,7 @@ returns-in_err-give_echo g c =
           let x = i.left d f in
           let y = has.each d x.0 in
           let mid = state_of c.loop-code.self.system d in
-          let after = state_of c.type_one-shown.new.self d in
+          let after = state_of c.type_one-shown.new.system d in
           let shown = echo_items t c.type_one-shown.result after in
           let more = rest (plain m d) t text n c.loop-code-test.true mid after shown x.1 y.1 y.2 in
           subst (λ is. Takes g.T.Taker.stands g.T.Taker.cut c.args.out.now c.give_echo.new.out r is []) (sym (split_items (plain m d) t text n c.loop-code-test.true mid after shown x.1 y.1 y.2))

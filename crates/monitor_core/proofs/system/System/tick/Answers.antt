@@ -4,7 +4,7 @@ use Rattle.fork_tree.specs.Trees.{IsTree}
 use Rattle.fork_tree.proofs.Sleepers.{tree_awoken}
 use Rattle.job_forks.proofs.Places.{Keep}
 use Rattle.monitor_core.proofs.EventDid.{did_tick}
-use Rattle.monitor_core.proofs.HasDone.{sound_kept}
+use Rattle.monitor_core.proofs.SoundKept.{sound_kept}
 use Rattle.monitor_core.proofs.Sleepers.{sleepers_keep}
 use Rattle.monitor_calls.proofs.Sounds.{same_tops}
 use Rattle.monitor_core.proofs.system.System.tick.Goals as goal

@@ -4,8 +4,8 @@ use Rattle.plain_model.specs.Moves.{moves}
 use Rattle.plain_model.specs.Trees.{PlainTree}
 use Rattle.file_tables.specs.Keys.{key_of}
 use Rattle.step_wants.specs.Homes.{told}
-use Rattle.monitor_core.specs.Deeds.{PartNeeds}
-use Rattle.monitor_core.specs.Reaching.{PartReaches}
+use Rattle.monitor_typing.specs.Deeds.{PartNeeds}
+use Rattle.monitor_typing.specs.Reaching.{PartReaches}
 use Rattle.turn_forms.specs.Turns.{moved}
 use Rattle.page_waits.specs.Seats.{has}
 use Rattle.paged_system.specs.Paging.{parts_of}
@@ -26,7 +26,7 @@ follow_part-requires-clause-had g c =
 pub returns-in-Ok-clause-did : goal.returns-in-Ok-clause-did
 returns-in-Ok-clause-did g c =
     let old = c.args.self.now in
-    part_did old (record old { system = c.part.new.self }) c.args.deed.now c.in-Ok.answer c.requires.part.1 c.in-Ok.ensures.does c.in-Ok.ensures.fits
+    part_did old (record old { system = c.part.new.system }) c.args.deed.now c.in-Ok.answer c.requires.part.1 c.in-Ok.ensures.does c.in-Ok.ensures.fits
 
 pub returns-in-Ok-clause-moved : goal.returns-in-Ok-clause-moved
 returns-in-Ok-clause-moved g c =
@@ -39,11 +39,11 @@ returns-in-Ok-clause-moved g c =
 pub returns-in-Err-clause-needs : goal.returns-in-Err-clause-needs
 returns-in-Err-clause-needs g c =
     let old = c.args.self.now in
-    let new = record old { system = c.part.new.self } in
+    let new = record old { system = c.part.new.system } in
     let means = g.P.Pages.means in
     let m = old.system in
     let x = c.args.deed.now in
-    deed_waits old new c.in-Err.need c.in-Err.ensures.waits (g.met.P.Pages.housed m.pages) (g.met.P.Pages.housed c.part.new.self.pages) (λ flat. (let wrong = c.in-Err.ensures.core flat in cc wrong)) x
+    deed_waits old new c.in-Err.need c.in-Err.ensures.waits (g.met.P.Pages.housed m.pages) (g.met.P.Pages.housed c.part.new.system.pages) (λ flat. (let wrong = c.in-Err.ensures.core flat in cc wrong)) x
     (λ d home fits is.
     ap (has home.0) (c.the_tables_tell.ensures (key_of m.files) (parts_of old d) x (means.map_home m.pages) (means.page_home m.pages) (is_told x c.requires.part.1)
     ∙ ap (λ filed. told (means.map_home m.pages) (means.page_home m.pages) (key_of m.files) filed m.tree.forks (parts_of old d).jobs x) (same_filed old d fits (g.met.P.Pages.agrees m.pages d fits.pages)))

@@ -1,4 +1,0 @@
-use Rattle.monitor_core.proofs.system.System.+end_command.Given as goal
-
-abbrev pub decreases-end_command : goal.decreases-end_command
-decreases-end_command g l = l.left

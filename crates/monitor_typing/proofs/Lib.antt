@@ -1,0 +1,11 @@
+mod HasDone
+mod PostDid
+mod Commanded
+mod TypeDid
+mod CommandDid
+mod CharacterOthers
+mod CharacterDid
+mod CharacterParts
+mod DeleteDid
+mod CommandPages
+mod EndDid
