@@ -1,15 +1,16 @@
--- What a deed leaves of a system over pages, by what the system below tells of an event and of a part of a character.
-use Rattle.std.proofs.Common.{◌≡◌, Bool, true, false, None, refl, ◌∙◌, subst, arith}
+-- What a deed leaves of a system over pages, by what the system below tells of an event and of a part of a character; and what a task needs first.
+use Rattle.std.proofs.Common.{◌≡◌, ℕ, List, Bool, true, false, None, refl, sym, ◌∙◌, ap, subst, arith}
 use Rattle.script_texts.specs.declared.event.Event.{Event}
 use Rattle.script_texts.specs.declared.event.Step.TheVariants as step
 use Rattle.plain_model.specs.Run.{apply}
 use Rattle.plain_model.specs.State.{PlainState}
 use Rattle.page_contracts.specs.DrumWords.{DrumWords}
 use Rattle.page_contracts.specs.Pages.{AreHoused}
+use Rattle.page_contracts.specs.Stores.{IsNeeded}
 use Rattle.page_contracts.specs.declared.answers.Need.{Need}
 use Rattle.page_contracts.specs.declared.answers.Need.TheVariants.{Page}
 use Rattle.page_homes.specs.declared.homes.Home.{Home}
-use Rattle.event_deeds.specs.Deeds.{IsPart, IsTold, deed, deed_of, entries_of}
+use Rattle.event_deeds.specs.Deeds.{IsPart, IsTold, Task, deed, entries_of}
 use Rattle.event_deeds.specs.declared.answer.Answer.{Answer}
 use Rattle.event_deeds.specs.declared.answer.Showing.{Showing}
 use Rattle.event_deeds.specs.declared.answer.Showing.TheVariants.{Echo, Reply, Told}
@@ -18,11 +19,11 @@ use Rattle.event_deeds.specs.declared.deed.Deed.TheVariants.{Begin, End, Kill, O
 use Rattle.step_shown.specs.declared.reply.Reply.{Reply as AReply}
 use Rattle.monitor_typing.specs.Deeds.{Does, FitsAnswer, FitsPart}
 use Rattle.monitor_core.specs.Needing.{CanShow}
-use Rattle.monitor_core.specs.Systems.{Did, FitsPages, IsWithin, Waits, event_frames}
+use Rattle.monitor_core.specs.Systems.{Did, FitsPages, IsWithin, Waits}
 use Rattle.page_waits.specs.Seats.{has}
-use Rattle.page_waits.specs.Systems.{DidDeed, FitsShowing, Needs, SameOver}
+use Rattle.page_waits.specs.Systems.{DidDeed, FitsShowing, Needs, StaysState, most_framed}
 use Rattle.paged_system.specs.declared.paged.Paged.{Paged}
-use Rattle.paged_system.specs.Paging.{gives_in, paged, wants_of}
+use Rattle.paged_system.specs.Paging.{gives_in, paged, store_of, wants_of}
 use Rattle.paged_system.proofs.Over.{needed, planned}
 use Rattle.paged_system.proofs.Staying.{state_stays}
 
@@ -77,7 +78,7 @@ module _ {P : Type 0} {b : _} (old new : Paged P b) where
     loses = did.loses;
   }
 
-  part_gives : (d : DrumWords) (w : Showing) → FitsPart w → gives_in new d w
+  part_gives : (d : DrumWords) (w : Showing) → FitsPart w → gives_in new.system d w
   part_gives d (Reply reply) fits = absurd fits
   part_gives d (Echo t shown) fits = tt
   part_gives d (Told t shown) fits = tt
@@ -98,24 +99,25 @@ module _ {P : Type 0} {b : _} (old new : Paged P b) where
     loses = does.has.loses;
   }
 
-  module _ (need : Need) (waits : Waits event_frames old.system new.system need) (housed : AreHoused b.means old.system.pages) (housed' : AreHoused b.means new.system.pages) where
-    -- over each drum that fits, each task refers to the same
-    pub same : (d : DrumWords) → FitsPages old.system d → SameOver paged old new d d
-    same = (state_stays old new waits.beside waits.homed housed housed' waits.most waits.within waits.planned.homes waits.pages).each
+  -- what a task needs first, of so many frames at most
+  module _ (need : Need) (frames : ℕ) (waits : Waits frames old.system new.system need) (housed : AreHoused b.means old.system.pages) (housed' : AreHoused b.means new.system.pages) (paged_so : b.means.flat ≡ true → ⊥) where
+    stays : StaysState paged old new
+    stays = state_stays old new waits.beside waits.homed housed housed' waits.most waits.within waits.planned.homes waits.pages
 
-    pub told_as : (d : Deed) → (paged {P = P} {b = b}).told new d ≡ (paged {P = P} {b = b}).told old d
-    told_as d = λ i. (state_stays old new waits.beside waits.homed housed housed' waits.most waits.within waits.planned.homes waits.pages).told.wants i d
+    not_flat : (flat : Bool) → (flat ≡ true → ⊥) → flat ≡ false
+    not_flat true wrong = absurd (wrong refl)
+    not_flat false wrong = refl
 
-    module _ (paged_so : b.means.flat ≡ true → ⊥) where
-      not_flat : (flat : Bool) → (flat ≡ true → ⊥) → flat ≡ false
-      not_flat true wrong = absurd (wrong refl)
-      not_flat false wrong = refl
+    pub task_waits : (x : Task) → frames ≡ most_framed x → ((d : DrumWords) (home : Home) → FitsPages old.system d → need ≡ Page home → has home.0 (wants_of old.system d x) ≡ true) → Needs paged x old new need
+    task_waits x same wanted = record {
+      state = stays;
+      stored = planned (λ s. s.system.pages) b.means.store old new waits.planned;
+      frames = housed.flat ∙ not_flat b.means.flat paged_so;
+      needed = subst (λ (n : ℕ). IsNeeded store_of n new need) same (needed (λ s. s.system.pages) b.means.store old new frames need waits.needed);
+      wanted = wanted;
+    }
 
-      pub deed_waits : (x : Deed) → ((d : DrumWords) (home : Home) → FitsPages old.system d → need ≡ Page home → has home.0 (wants_of old d (deed_of x)) ≡ true) → Needs paged (deed_of x) old new need
-      deed_waits x wanted = record {
-        state = state_stays old new waits.beside waits.homed housed housed' waits.most waits.within waits.planned.homes waits.pages;
-        stored = planned (λ s. s.system.pages) b.means.store old new waits.planned;
-        frames = housed.flat ∙ not_flat b.means.flat paged_so;
-        needed = needed (λ s. s.system.pages) b.means.store old new event_frames need waits.needed;
-        wanted = wanted;
-      }
+    -- what is needed is told once the task was tried
+    pub tried_waits : (x : Task) → frames ≡ most_framed x → ((d : DrumWords) (home : Home) → FitsPages new.system d → need ≡ Page home → has home.0 (wants_of new.system d x) ≡ true) → Needs paged x old new need
+    tried_waits x same wanted =
+        task_waits x same (λ d home fits is. (let there = stays.each d fits in ap (λ (of : Task → List ℕ). has home.0 (of x)) (sym there.wants) ∙ wanted d home there.fits is))

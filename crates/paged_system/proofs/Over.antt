@@ -3,9 +3,10 @@ use Rattle.std.proofs.Common.{◌≡◌, ℕ}
 use Rattle.page_contracts.specs.declared.answers.Need.{Need}
 use Rattle.page_contracts.specs.declared.answers.Need.TheVariants.{Frame, Page}
 use Rattle.page_contracts.specs.declared.store.Completed.{Completed}
-use Rattle.page_contracts.specs.Stores.{CanKeep, CanLeave, Completes, Ends, Evicts, IsFetched, IsNeeded, IsNext, IsSound, Keeps, LetsGo, StaysFramed, StaysPlanned, StaysQueued, StaysStored, StaysThere, StoreMeaning, Tells}
-use Rattle.std.specs.Prelude.{Option, Some, None, MatchOption}
+use Rattle.page_contracts.specs.Stores.{CanFetch, CanKeep, Completes, Ends, Evicts, IsFetched, IsNeeded, Keeps, LetsGo, StaysFramed, StaysPlanned, StaysQueued, StaysStored, StaysThere, StoreMeaning, Tells}
+use Rattle.std.specs.Prelude.{Option}
 use Rattle.paged_system.specs.Over.{over}
+use Rattle.paged_system.specs.OverSound.{leaves, leaves_over}
 
 module _ {S P : Type 0} (part : S → P) (means : StoreMeaning P) (old new : S) where
   framed : StaysFramed means (part old) (part new) → StaysFramed (over part means) old new
@@ -22,6 +23,10 @@ module _ {S P : Type 0} (part : S → P) (means : StoreMeaning P) (old new : S) 
 
   pub planned : StaysPlanned means (part old) (part new) → StaysPlanned (over part means) old new
   planned p = record { homes = p.homes; frames = p.frames; spare = p.spare; members = p.members; queued = queued_stay p.queued; holds = p.holds; ages = p.ages }
+
+  pub can_fetch : (need : Need) → CanFetch (over part means) old need → CanFetch means (part old) need
+  can_fetch (Page home) c = c
+  can_fetch Frame c = c
 
   pub fetched : (need : Need) → IsFetched means need (part old) (part new) → IsFetched (over part means) need old new
   fetched need f = record {
@@ -60,16 +65,10 @@ module _ {S P : Type 0} (part : S → P) (means : StoreMeaning P) (old new : S) 
   pub tells : (told : Option Need) → Tells means told (part old) (part new) → Tells (over part means) told old new
   tells told t = record { untold = t.untold; last = t.last; stays = there t.stays; queue = t.queue; holds = t.holds }
 
-  leaves : (frame home : ℕ) → CanLeave (over part means) old frame home → CanLeave means (part old) frame home
-  leaves frame home c = record { there = c.there; still = c.still; unheld = c.unheld }
-
-  leaves_over : (frame home : ℕ) → CanLeave means (part old) frame home → CanLeave (over part means) old frame home
-  leaves_over frame home c = record { there = c.there; still = c.still; unheld = c.unheld }
-
   pub evicts : (frame : ℕ) → Evicts means frame (part old) (part new) → Evicts (over part means) frame old new
   evicts frame e = record {
-    leaves = λ home can. e.leaves home (leaves frame home can);
-    none = λ no. e.none (λ home can. no home (leaves_over frame home can));
+    leaves = λ home can. e.leaves home (leaves part means old frame home can);
+    none = λ no. e.none (λ home can. no home (leaves_over part means old frame home can));
     stays = there e.stays;
     untold = e.untold;
     holds = e.holds;
@@ -105,40 +104,3 @@ module _ {S P : Type 0} (part : S → P) (means : StoreMeaning P) (old new : S) 
       uncounted = c.uncounted;
       size = c.size;
     }
-
-module _ {S P : Type 0} (part : S → P) (means : StoreMeaning P) (s : S) where
-  next : (victim : Option ℕ) → MatchOption victim ((frame home : ℕ) → CanLeave means (part s) frame home → ⊥) (IsNext means (part s)) → MatchOption victim ((frame home : ℕ) → CanLeave (over part means) s frame home → ⊥) (IsNext (over part means) s)
-  next None none = λ frame home can. none frame home (leaves part means s s frame home can)
-  next (Some frame) n = record {
-    home = n.home;
-    leaves = leaves_over part means s s frame n.home n.leaves;
-    oldest = λ g other can. n.oldest g other (leaves part means s s g other can);
-    least = λ g other can same. n.least g other (leaves part means s s g other can) same;
-  }
-
-  pub sound : IsSound means (part s) → IsSound (over part means) s
-  sound o = record {
-    few = o.few;
-    pages = o.pages;
-    finds = o.finds;
-    apart = o.apart;
-    comes = o.comes;
-    goes = o.goes;
-    once = o.once;
-    held = o.held;
-    unmoved = o.unmoved;
-    shared = o.shared;
-    seated = λ framed home here. (let f = o.seated framed home here in record { frame = f.frame; is = f.is });
-    given = o.given;
-    single = o.single;
-    members = o.members;
-    few_held = o.few_held;
-    none_held = o.none_held;
-    held_once = o.held_once;
-    numbered = o.numbered;
-    aged = o.aged;
-    next = next (means.victim (part s)) o.next;
-    core = o.core;
-    still = o.still;
-    frames = o.frames;
-  }

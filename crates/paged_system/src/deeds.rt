@@ -53,7 +53,7 @@ impl<P: Pages> Paged<P> {
         }
     }
 
-    // A part of a character, and then the lists follow. Err: it needs this first, and nothing has changed.
+    // A part of a character, and then the lists follow. Err: it needs this first, which is no frame, and nothing has changed.
     fn do_part(&mut self, lists: &mut ForkLists, deed: &Deed) -> Result<Answer, Need>
         requires part { IsNext deed.now }
         requires tied { AreTied self.old.system.tree.forks lists.old }
@@ -65,6 +65,7 @@ impl<P: Pages> Paged<P> {
         ensures needs { IfErr result (Needs paged (deed_of deed.now) self.old self.new) }
         ensures told { (home : AHome) → IsTold deed.now → result ≡ Err (ANeed.Page home)
             → has home.0 (paged.told self.old deed.now) ≡ true }
+        ensures unframed { result ≡ Err ANeed.Frame → ⊥ }
         ensures stays { IfErr result (λ need. lists.new ≡ lists.old) }
     {
         the_tables_tell();
@@ -78,7 +79,7 @@ impl<P: Pages> Paged<P> {
         }
     }
 
-    /// A deed, and then the lists follow the forks. Err: it needs this first, and nothing has changed.
+    /// A deed, and then the lists follow the forks. Err: it needs this first, and nothing has changed; a part of a character needs no frame.
     pub(crate) fn do_deed(&mut self, lists: &mut ForkLists, deed: &Deed) -> Result<Answer, Need>
         requires fits { FitsDeed deed.now }
         requires tied { AreTied self.old.system.tree.forks lists.old }
@@ -91,6 +92,7 @@ impl<P: Pages> Paged<P> {
         ensures needs { IfErr result (Needs paged (deed_of deed.now) self.old self.new) }
         ensures told { (home : AHome) → IsTold deed.now → result ≡ Err (ANeed.Page home)
             → has home.0 (paged.told self.old deed.now) ≡ true }
+        ensures unframed { IsNext deed.now → result ≡ Err ANeed.Frame → ⊥ }
         ensures stays { IfErr result (λ need. lists.new ≡ lists.old) }
     {
         match deed {

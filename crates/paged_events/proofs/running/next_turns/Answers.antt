@@ -31,7 +31,7 @@ returns-in-Ok-end_quantum-clause-took g c =
     (over_quiet g.S.System.means g.D.Drum.held g.T.Taker.stands g.T.Taker.cut c.args.waits.now.auto the_lists 0 c.args.waits.now.system c.turns.new.self.system c.end_quantum.new.self.system c.turns.new.self.lists c.end_quantum.new.self.lists c.args.drum.now c.turns.new.drum c.end_quantum.new.drum c.args.out.now c.give_units.new.out (row_of c.in-Ran.row.fork c.in-Ran.row.progress.count)
     (units_gave g.S.System.means the_lists g.D.Drum.held g.T.Taker.stands g.T.Taker.cut c.args.waits.now.auto c.in-Ran.row.fork c.in-Ran.row.progress c.args.waits.now.system c.turns.new.self.system c.args.drum.now c.turns.new.drum c.args.out.now c.give_units.new.out (subst (λ (w : Turn). Turned g.S.System.means the_lists g.D.Drum.held c.args.waits.now.auto c.args.waits.now.system c.turns.new.self.system c.args.drum.now c.turns.new.drum w) c.in-Ran.is c.in-Ok.ensures.turned) c.in-Ok-give_units.ensures.ok) c.in-Ok-end_quantum.ensures.quiet)
     (units_calm g.S.System.means (λ s d fits. ap (λ (t : PlainTree). t.forks) (g.met.S.System.forked s d fits)) g.D.Drum.held c.args.waits.now.system c.args.waits.now.lists c.args.drum.now c.lists_are_sound.ensures.tied c.lists_are_sound.ensures.sound c.in-Ran.row c.turns.new.self.system c.end_quantum.new.self.system c.turns.new.self.lists c.end_quantum.new.self.lists c.turns.new.drum some
-    c.lists_are_sound-2.ensures.tied c.lists_are_sound-2.ensures.sound (subst (λ (w : Turn). Turned g.S.System.means the_lists g.D.Drum.held c.args.waits.now.auto c.args.waits.now.system c.turns.new.self.system c.args.drum.now c.turns.new.drum w) c.in-Ran.is c.in-Ok.ensures.turned) c.in-Ok-end_quantum.ensures.quiet.told.tree
+    c.lists_are_sound-in-Ok-end_quantum.ensures.tied c.lists_are_sound-in-Ok-end_quantum.ensures.sound (subst (λ (w : Turn). Turned g.S.System.means the_lists g.D.Drum.held c.args.waits.now.auto c.args.waits.now.system c.turns.new.self.system c.args.drum.now c.turns.new.drum w) c.in-Ran.is c.in-Ok.ensures.turned) c.in-Ok-end_quantum.ensures.quiet.told.tree
     (λ frames d fits core room. subst (λ (w : Turn). TookCalmly g.S.System.means frames w c.args.waits.now.system c.turns.new.self.system c.args.waits.now.lists c.turns.new.self.lists) c.in-Ran.is (c.in-Ok.ensures.calm frames d fits core room)) c.end_quantum.ensures.system c.end_quantum.ensures.lists)
 
 pub returns-in-Ok-end_quantum-clause-rows : goal.returns-in-Ok-end_quantum-clause-rows
