@@ -353,18 +353,25 @@ impl Frames {
     }
 
     /// A use of a frame: its age is the number of this use. At the end of their type the numbers
-    /// stand still. A free frame has no age.
-    pub fn touch_age(&mut self, f: FrameId)
+    /// stand still. A free frame has no age. Answers whether a transfer of the frame is queued.
+    #[inline(always)]
+    pub fn touch_age(&mut self, f: FrameId) -> bool
         requires { f.0 < length self.old.seats }
         ensures used { self.new ≡ used self.old f.0 }
+        ensures moving { result ≡ is_moving self.old f.0 }
         ensures whole { IsCore self.old }
     {
-        if let Some(tenant) = self.seats[f.0 as usize] {
-            self.renew(f, tenant);
+        match self.seats[f.0 as usize] {
+            Some(tenant) => {
+                self.renew(f, tenant);
+                tenant.in_transfer
+            }
+            None => false,
         }
     }
 
     // A use of a frame that is taken.
+    #[inline(always)]
     fn renew(&mut self, f: FrameId, tenant: Tenant)
         requires { seat_of self.old f.0 ≡ Some tenant }
         ensures { self.new ≡ used self.old f.0 }

@@ -185,15 +185,17 @@ impl Residence {
         self.frames.put(f, at, word.value());
     }
 
-    /// A use of a frame.
-    pub fn touch(&mut self, f: FrameId)
+    /// A use of a frame. False only where no transfer of it is queued.
+    #[inline(always)]
+    pub fn touch(&mut self, f: FrameId) -> bool
         requires { f.0 < length self.old.frames.seats }
+        ensures idle { result ≡ false → transfer_of f.0 self.old.queue.queued ≡ None }
         ensures seats { SeatsStay self.old.frames.seats self.new.frames.seats }
         ensures renews { IsRenewed f.0 self.old.frames.seats self.new.frames.seats self.old.frames.uses self.new.frames.uses }
         ensures words { self.new.frames.words ≡ self.old.frames.words }
         ensures queue { self.new.queue ≡ self.old.queue }
     {
-        self.frames.touch_age(f);
+        self.frames.touch_age(f)
     }
 
     /// Takes the write of a frame from the queue. False exactly where none is queued; then nothing changes.

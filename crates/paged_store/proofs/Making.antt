@@ -14,7 +14,6 @@ use Rattle.drum_queue.specs.Transfers.{Transfers, transfer_of}
 use Rattle.paged_store.specs.declared.store.PagedStore.{PagedStore}
 use Rattle.page_residence.specs.declared.residence.Residence.{Residence}
 use Rattle.paged_store.specs.Keeping.{IsKept}
-use Rattle.page_contracts.specs.Stores.{members_of}
 use Rattle.page_residence.specs.Resident.{Seats, seat, age_at, found_at, found_in, frame_for, framed, meant, places, placed, reads, tenant_at, IsGivenTo, IsRenewed}
 use Rattle.page_residence.proofs.Renewing.{given_home, renews_at, tenants_made}
 use Rattle.page_residence.proofs.Seating.{frame_none}

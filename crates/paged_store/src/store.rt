@@ -48,7 +48,7 @@ impl PagedStore {
     ghost use Rattle.std.specs.Option.{option_map_or};
     ghost use Rattle.outside.specs.Drums.{IsPage};
     ghost use Rattle.page_contracts.specs.Stores.{IsFetched, IsMade, away, awaited, free_homes, here, meeting, place, room_of};
-    ghost use Rattle.page_residence.specs.Resident.{IsRenewed, IsTakenFrom};
+    ghost use Rattle.page_residence.specs.Resident.{AgesStay, IsRenewed, IsTakenFrom};
     ghost use Rattle.paged_store.specs.StoreMeaning.{paged_meaning};
     ghost use Rattle.paged_store.specs.StoreSteps.{HasReleased, IsAtRest, IsInPlace, all_but, departing};
 
@@ -72,6 +72,7 @@ impl PagedStore {
     }
 
     // A use of a frame. Where its write is queued, it is taken from the queue.
+    #[inline(always)]
     fn use_frame(&mut self, f: FrameId)
         requires { f.0 < length self.old.core.frames.seats }
         ensures stays { IsInPlace self.old self.new }
@@ -80,7 +81,23 @@ impl PagedStore {
         ensures untold { self.new.untold.needs ≡ (if writes (transfer_of f.0 self.old.core.queue.queued) then noted Need.Frame self.old.untold.needs else self.old.untold.needs) }
         ensures holders { self.new.holders ≡ self.old.holders }
     {
-        self.core.touch(f);
+        if !self.core.touch(f) {
+            return;
+        }
+        self.recall(f);
+    }
+
+    // A page that is used stays in its frame: where its write is queued, it is taken from the queue.
+    #[cold]
+    fn recall(&mut self, f: FrameId)
+        requires { f.0 < length self.old.core.frames.seats }
+        ensures stays { IsInPlace self.old self.new }
+        ensures ages { AgesStay self.old.core.frames.seats self.new.core.frames.seats }
+        ensures uses { self.new.core.frames.uses ≡ self.old.core.frames.uses }
+        ensures queue { self.new.core.queue.queued ≡ (if writes (transfer_of f.0 self.old.core.queue.queued) then without f.0 self.old.core.queue.queued else self.old.core.queue.queued) }
+        ensures untold { self.new.untold.needs ≡ (if writes (transfer_of f.0 self.old.core.queue.queued) then noted Need.Frame self.old.untold.needs else self.old.untold.needs) }
+        ensures holders { self.new.holders ≡ self.old.holders }
+    {
         if !self.core.rescue(f) {
             return;
         }
