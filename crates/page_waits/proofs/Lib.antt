@@ -13,7 +13,7 @@ mod Idle
 mod Moving
 mod Needing
 mod Holding
-mod Silence
+pub mod Silence
 mod Marks
 mod Queued
 mod Quieting

@@ -28,7 +28,7 @@ silent_then a b c f g = record { silent = f.silent ++ g.silent; are = g.are ∙ 
 
 -- a row that was run behind what happened silently
 pub row_behind : (f : ForkName) (count : ℕ) (ended : Bool) (before after : ForkMap) (a b c : Schedule) → MovesSilently a b → TookRow f count ended before after b c → TookRow f count ended before after a c
-row_behind f count ended before after a b c silent row = record { begun = row.begun; silent = silent_then a b row.begun silent row.silent; head = row.head; counted = row.counted }
+row_behind f count ended before after a b c silent row = record { begun = row.begun; silent = silent_then a b row.begun silent row.silent; head = row.head; within = row.within; counted = row.counted }
 
 -- a deed that was done behind what happened silently
 pub deed_behind : (before after : ForkMap) (a b c : Schedule) → MovesSilently a b → AllTold (moved (moves before after) b) c → TookDeed before after a c

@@ -2,7 +2,7 @@
 use Rattle.std.specs.Prelude.{◌≡◌, ℕ, ◌+◌, ◌-◌, List, [], ◌∷◌, Bool, true, ◌&&◌, nat_le}
 use Rattle.fork_lists.specs.Following.{last_counted}
 use Rattle.job_sched.specs.Schedules.{Schedule, arrived, heads}
-use Rattle.job_sched.specs.Units.{row_ran}
+use Rattle.job_sched.specs.Units.{IsRow, row_ran}
 use Rattle.machine_names.specs.declared.names.ForkName.{ForkName}
 use Rattle.machine_names.specs.declared.names.TheConstants.{QUANTUM}
 use Rattle.page_contracts.specs.declared.answers.Need.{Need}
@@ -41,10 +41,11 @@ pub record TookDeed (before after : ForkMap) (old new : Schedule) : Type 0 where
   pub silent : MovesSilently old begun
   pub told : AllTold (moved (moves before after) begun) new
 
--- A row of units of a fork was run, from these forks to those: what happened silently left it the head of the ready list; all units but the last were counted,
--- the lists followed the forks, some things were told, and the last unit was counted.
+-- A row of units of a fork was run, from these forks to those: what happened silently left it the head of the ready list, and it was alone or had them left of its
+-- quantum; all units but the last were counted, the lists followed the forks, some things were told, and the last unit was counted.
 pub record TookRow (f : ForkName) (count : ℕ) (ended : Bool) (before after : ForkMap) (old new : Schedule) : Type 0 where
   pub begun : Schedule
   pub silent : MovesSilently old begun
   pub head : heads f begun.ready ≡ true
+  pub within : IsRow count begun
   pub counted : LastCounted f ended (moved (moves before after) (row_ran (count - 1) begun)) new

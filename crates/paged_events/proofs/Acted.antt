@@ -1,12 +1,14 @@
 -- Events that were acted on, and runs turn by turn.
-use Rattle.std.proofs.Common.{◌≡◌, ℕ, zero, suc, ◌+◌, ◌-◌, ◌≤◌, List, [], ◌∷◌, ◌++◌, Bool, Option, None, ⊎_elim, inl, inr, length, length-append, refl, sym, ◌∙◌, ap, subst, arith}
-use Rattle.std.specs.Prelude.{Result, Ok, Err, IfOk, OnErr, OnOk}
+use Rattle.std.proofs.Common.{◌≡◌, ℕ, ◌+◌, ◌-◌, ◌≤◌, List, [], ◌∷◌, ◌++◌, Bool, Option, None, ⊎_elim, inl, length, length-append, refl, sym, subst, arith}
+use Rattle.std.specs.Prelude.{Result, Ok, Err, IfOk, OnOk}
 use Rattle.fork_lists.specs.declared.lists.ForkLists.{ForkLists}
 use Rattle.page_contracts.specs.DrumWords.{DrumWords}
 use Rattle.page_waits.specs.Acts.{Quiet}
 use Rattle.page_waits.specs.Calm.{AreRoomy, IsRoomy}
 use Rattle.page_waits.specs.InCore.{IsInCore}
 use Rattle.page_waits.specs.Systems.{StaysState, SystemMeaning}
+use Rattle.page_waits.proofs.Silence.{silent_nil}
+use Rattle.page_waits.specs.Told.{MovesSilently}
 use Rattle.page_waits.specs.Waits.{ListsMeaning, the_lists}
 use Rattle.plain_model.specs.Run.{ShownFirst, state_after}
 use Rattle.plain_model.specs.State.{PlainState}
@@ -18,11 +20,13 @@ use Rattle.script_texts.specs.declared.event.Step.{Step}
 use Rattle.script_texts.specs.declared.event.Step.TheVariants.{Outer}
 use Rattle.script_texts.proofs.Takers.{AreTurns-append, goes_on_nil}
 use Rattle.paged_events.specs.Calmly.{ComeCalmly, GoesCalmly, TurnsCalmly, WhereInCore}
-use Rattle.paged_events.specs.Given.{Acted, Adds, GivenTurns, Gives, IsWithin, Standing, TookTurns}
+use Rattle.paged_events.specs.Given.{Acted, Adds, GivenTurns, Gives, Standing, TookTurns}
 use Rattle.machine_events.specs.Outcome.{CutOff, CutOver, GaveBefore, Stopped}
+use Rattle.paged_events.specs.Turns.{AreTurnsOver}
 use Rattle.paged_events.specs.declared.fault.Fault.{Fault}
 use Rattle.paged_events.specs.declared.fault.Fault.TheVariants.{Drum, Taker}
 use Rattle.paged_events.proofs.Calmness.{calmly_append, calmly_fair, none_fair, one_fair, roomy_apart}
+use Rattle.paged_events.proofs.Entries.{entries_join, no_entry}
 use Rattle.paged_events.proofs.Over.{over_append, over_before, over_cut, over_none, over_quiet, so_far}
 
 -- the entries of an event that is one
@@ -69,10 +73,10 @@ module _ {S : Type 0} (means : SystemMeaning S) where
 
   module _ {D T : Type 0} (held : D → Option DrumWords) (stands cut : Standing T) (auto : Bool) where
     module _ (e : Event) (s s' : S) (l l' : ForkLists) (drum drum' : D) (out out' : T) where
-      pub event_given : (count : ℕ) (steps : List Step) → FollowsOne e steps → length steps ≡ count → Adds means count s s' → Gives means held stands cut auto s s' drum drum' out out' steps → GoesCalmly means held e steps s s' l l' drum
+      pub event_given : (count : ℕ) (steps : List Step) → FollowsOne e steps → length steps ≡ count → Adds means count s s' → Gives means held stands cut auto s s' drum drum' out out' steps → AreTurnsOver means held steps s l l' drum → GoesCalmly means held e steps s s' l l' drum
           → Acted means held stands cut auto e (Ok count) s s' l l' drum drum' out out'
-      event_given count steps follows counts adds told calm = record {
-        ok = record { given = record { steps = steps; follows = follows; counts = counts; adds = adds; told = told }; calm = calm };
+      event_given count steps follows counts adds told turns calm = record {
+        ok = record { given = record { steps = steps; follows = follows; counts = counts; adds = adds; told = told }; turns = turns; calm = calm };
         stopped = λ is. absurd (cc is);
         cutoff = λ is. absurd (cc is);
       }
@@ -102,7 +106,7 @@ module _ {S : Type 0} (means : SystemMeaning S) where
     TurnsGiven n s s' l l' drum drum' out out' = GivenTurns means held stands cut auto n s s' l l' drum drum' out out'
 
     pub no_turns : (s : S) (l : ForkLists) (drum : D) (out : T) → TurnsCalmly means held [] s s l l drum → TurnsGiven 0 s s l l drum drum out out
-    no_turns s l drum out calm = record { given = record { steps = []; follows = (refl, tt); counts = refl; adds = adds_none s; told = over_none means held stands cut auto s drum out }; calm = calm }
+    no_turns s l drum out calm = record { given = record { steps = []; follows = (refl, tt); counts = refl; adds = adds_none s; told = over_none means held stands cut auto s drum out }; turns = no_entry means held s l l drum (silent_nil l.sched); calm = calm }
 
     -- turns that come calmly behind such
     calm_more : (s0 s1 s2 : S) (l0 l1 l2 : ForkLists) (d0 d1 : D) (o0 o1 : T) (xs ys : List Step) → Gives means held stands cut auto s0 s1 d0 d1 o0 o1 xs → TurnsCalmly means held xs s0 s1 l0 l1 d0 → TurnsCalmly means held ys s1 s2 l1 l2 d1
@@ -132,6 +136,7 @@ module _ {S : Type 0} (means : SystemMeaning S) where
             adds = adds_then j k s0 s1 s2 f.adds g.adds;
             told = over_append means held stands cut auto s0 s1 s2 d0 d1 d2 o0 o1 o2 f.steps g.steps f.told g.told;
           };
+          turns = entries_join means held stands cut auto s0 s1 l0 l1 l2 d0 d1 o0 o1 f.steps g.steps f.told first.turns second.turns;
           calm = calm_more s0 s1 s2 l0 l1 l2 d0 d1 o0 o1 f.steps g.steps f.told first.calm second.calm;
         }
 
@@ -139,7 +144,7 @@ module _ {S : Type 0} (means : SystemMeaning S) where
     pub turns_given : (n : ℕ) (s s' : S) (l l' : ForkLists) (drum drum' : D) (out out' : T) → TurnsGiven n s s' l l' drum drum' out out' → Acted means held stands cut auto (Run n) (Ok n) s s' l l' drum drum' out out'
     turns_given n s s' l l' drum drum' out out' turns =
         let f = turns.given in
-        event_given (Run n) s s' l l' drum drum' out out' n f.steps f.follows f.counts f.adds f.told (λ frames d st fits core evict.
+        event_given (Run n) s s' l l' drum drum' out out' n f.steps f.follows f.counts f.adds f.told turns.turns (λ frames d st fits core evict.
         let came = turns.calm frames d st fits core in
         record { fair = calmly_fair frames l.sched (means.plain s d) f.steps l'.sched came.closer; core = came.core })
 
@@ -171,12 +176,12 @@ module _ {S : Type 0} (means : SystemMeaning S) where
 
     -- the next turns, given, or not
     module _ (left : ℕ) (s s' : S) (l l' : ForkLists) (drum drum' : D) (out out' : T) (steps : List Step) (turns : AreTurns steps) where
-      pub took_given : (n : ℕ) → 1 ≤ n → n ≤ left → length steps ≡ n → Adds means n s s' → Gives means held stands cut auto s s' drum drum' out out' steps → TurnsCalmly means held steps s s' l l' drum
+      pub took_given : (n : ℕ) → 1 ≤ n → n ≤ left → length steps ≡ n → Adds means n s s' → Gives means held stands cut auto s s' drum drum' out out' steps → AreTurnsOver means held steps s l l' drum → TurnsCalmly means held steps s s' l l' drum
           → TookTurns means held stands cut auto left (Ok n) s s' l l' drum drum' out out'
-      took_given n some few counts adds told calm = record {
+      took_given n some few counts adds told taken calm = record {
         some = some;
         few = few;
-        ok = record { given = record { steps = steps; follows = (counts, turns); counts = counts; adds = adds; told = told }; calm = calm };
+        ok = record { given = record { steps = steps; follows = (counts, turns); counts = counts; adds = adds; told = told }; turns = taken; calm = calm };
         stopped = λ is. absurd (cc is);
         cutoff = λ is. absurd (cc is);
       }
@@ -189,9 +194,9 @@ module _ {S : Type 0} (means : SystemMeaning S) where
 
     -- DRUM, which gives nothing
     pub transfers_acted : (n : ℕ) (r : Result ℕ Fault) (s s' : S) (l l' : ForkLists) (drum drum' : D) (out : T) → IfOk r (λ k. k ≡ 0) → OnOk r (Quiet means the_lists held None None None 0 s s' l l' drum drum') → (r ≡ Err Taker → ⊥)
-        → ((frames : ℕ) → IsInCore means frames s l → OnOk r (IsInCore means frames s' l')) → Acted means held stands cut auto (ADrum n) r s s' l l' drum drum' out out
-    transfers_acted n (Ok k) s s' l l' drum drum' out none quiet fails core =
+        → OnOk r (MovesSilently l.sched l'.sched) → ((frames : ℕ) → IsInCore means frames s l → OnOk r (IsInCore means frames s' l')) → Acted means held stands cut auto (ADrum n) r s s' l l' drum drum' out out
+    transfers_acted n (Ok k) s s' l l' drum drum' out none quiet fails moved core =
         subst (λ i. Acted means held stands cut auto (ADrum n) (Ok i) s s' l l' drum drum' out out) (sym none)
-        (event_given (ADrum n) s s' l l' drum drum' out out 0 [] refl refl (adds_some 0 s s' quiet.told.within) (quiet_gave the_lists s s' l l' drum drum' out quiet) (nothing_goes held (ADrum n) s s' l l' drum core))
-    transfers_acted n (Err Drum) s s' l l' drum drum' out none quiet fails core = nothing_given (ADrum n) s s' l l' drum drum' out refl
-    transfers_acted n (Err Taker) s s' l l' drum drum' out none quiet fails core = absurd (fails refl)
+        (event_given (ADrum n) s s' l l' drum drum' out out 0 [] refl refl (adds_some 0 s s' quiet.told.within) (quiet_gave the_lists s s' l l' drum drum' out quiet) (no_entry means held s l l' drum moved) (nothing_goes held (ADrum n) s s' l l' drum core))
+    transfers_acted n (Err Drum) s s' l l' drum drum' out none quiet fails moved core = nothing_given (ADrum n) s s' l l' drum drum' out refl
+    transfers_acted n (Err Taker) s s' l l' drum drum' out none quiet fails moved core = absurd (fails refl)

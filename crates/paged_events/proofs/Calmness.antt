@@ -1,5 +1,5 @@
 -- Entries that come calmly are fair while they are calm.
-use Rattle.std.proofs.Common.{◌≡◌, ℕ, zero, suc, ◌<◌, ◌≤◌, List, [], ◌∷◌, ◌++◌, length, length-append, replicate, append_assoc, true, refl, sym, ◌∙◌, ap, subst, arith}
+use Rattle.std.proofs.Common.{◌≡◌, ℕ, zero, suc, ◌≤◌, List, [], ◌∷◌, ◌++◌, length, length-append, replicate, append_assoc, true, refl, sym, ◌∙◌, ap, subst, arith}
 use Rattle.std.proofs.lemmas.List.{append-nil}
 use Rattle.job_sched.specs.Schedules.{Schedule}
 use Rattle.machine_events.specs.PassedOver.{AreNear, ComeCloser}

@@ -1,5 +1,5 @@
 -- Turns of a run where all is in core come calmly.
-use Rattle.std.proofs.Common.{◌≡◌, ℕ, zero, suc, ◌-◌, ◌<◌, ◌≤◌, List, [], Bool, true, false, Option, replicate, refl, sym, ◌∙◌, ap, subst, arith}
+use Rattle.std.proofs.Common.{◌≡◌, ℕ, ◌-◌, ◌<◌, ◌≤◌, [], true, false, Option, replicate, refl, sym, ◌∙◌, ap, subst, arith}
 use Rattle.machine_names.specs.declared.names.ForkName.{ForkName}
 use Rattle.script_texts.specs.declared.event.Step.TheVariants.{Idle as AnIdle, Unit as AUnit}
 use Rattle.plain_model.specs.Forks.{ForkMap, IsRunnable, runs_in}

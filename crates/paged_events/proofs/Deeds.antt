@@ -1,5 +1,5 @@
 -- Events that are one deed, given.
-use Rattle.std.proofs.Common.{◌≡◌, ℕ, List, [], ◌∷◌, ◌++◌, Bool, Option, refl, sym, ◌∙◌, ap, subst}
+use Rattle.std.proofs.Common.{◌≡◌, List, [], ◌∷◌, ◌++◌, Bool, Option, refl, sym, ◌∙◌, ap, subst}
 use Rattle.std.proofs.lemmas.List.{append-nil}
 use Rattle.event_deeds.specs.Deeds.{DeedEffect, deed, over}
 use Rattle.event_deeds.specs.declared.deed.Deed.TheVariants.{Outer as ADeed}
@@ -15,7 +15,6 @@ use Rattle.plain_model.specs.Unit.{Effect}
 use Rattle.plain_model.proofs.Equations.{apply_outer}
 use Rattle.script_texts.specs.Taker.{GoesOn, IsCut}
 use Rattle.script_texts.specs.declared.event.Event.{Event}
-use Rattle.script_texts.specs.declared.event.Item.{Item}
 use Rattle.script_texts.specs.declared.event.Step.{Step}
 use Rattle.script_texts.specs.declared.event.Step.TheVariants.{Outer}
 use Rattle.paged_events.specs.Given.{Gives, Standing}
@@ -26,7 +25,7 @@ unfolding deed
 outer_is s e = refl
 
 -- such a deed leaves and shows what the event does
-deed_state : (s : PlainState) (e : Event) → (deed s (ADeed e)).state ≡ (apply s (Outer e)).state
+pub deed_state : (s : PlainState) (e : Event) → (deed s (ADeed e)).state ≡ (apply s (Outer e)).state
 deed_state s e = ap (λ (x : DeedEffect). x.state) (outer_is s e) ∙ sym (ap (λ (x : Effect). x.state) (apply_outer s e))
 
 deed_items : (s : PlainState) (e : Event) → (deed s (ADeed e)).items ≡ (apply s (Outer e)).items ++ []

@@ -10,3 +10,7 @@ mod RowsMore
 mod NoMoves
 mod Calmness
 mod Coming
+pub mod Taking
+mod Entries
+mod TextLists
+mod Passing

@@ -1,17 +1,15 @@
 -- Steps that were given over what a drum told and tells, one part behind the other.
-use Rattle.std.proofs.Common.{◌≡◌, ℕ, zero, suc, ◌+◌, ◌≤◌, List, [], ◌∷◌, ◌++◌, Bool, true, Option, None, inl, replicate, length, append_assoc, refl, sym, ◌∙◌, ap, subst, arith}
+use Rattle.std.proofs.Common.{◌≡◌, ℕ, List, [], ◌++◌, Bool, Option, None, inl, append_assoc, refl, sym, ◌∙◌, ap, subst}
 use Rattle.std.proofs.lemmas.List.{append-nil}
-use Rattle.machine_names.specs.declared.names.ForkName.{ForkName}
 use Rattle.page_contracts.specs.DrumWords.{DrumWords}
 use Rattle.page_waits.specs.Acts.{Quiet}
-use Rattle.page_waits.specs.Systems.{StaysState, SystemMeaning}
+use Rattle.page_waits.specs.Systems.{SystemMeaning}
 use Rattle.page_waits.specs.Waits.{ListsMeaning}
 use Rattle.plain_model.specs.Run.{AreLegal, ShownFirst, items_of, state_after}
 use Rattle.plain_model.proofs.Runs.{AreLegal-append, items_of-append, state_after-append}
 use Rattle.script_texts.specs.Taker.{GoesOn}
 use Rattle.script_texts.proofs.Takers.{goes_on_append}
 use Rattle.script_texts.specs.declared.event.Event.{Event}
-use Rattle.script_texts.specs.declared.event.Item.{Item}
 use Rattle.script_texts.specs.declared.event.Step.{Step}
 use Rattle.paged_events.specs.Given.{Gives, Standing}
 use Rattle.machine_events.specs.Outcome.{CutOver, GaveBefore, judged_by}

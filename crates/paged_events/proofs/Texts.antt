@@ -1,24 +1,23 @@
 -- What is typed and shown, one part behind the other.
-use Rattle.std.proofs.Common.{◌≡◌, ℕ, zero, suc, ◌-◌, List, [], ◌∷◌, ◌++◌, Option, None, Some, append_assoc, refl, sym, ◌∙◌, ap, subst, arith}
+use Rattle.std.proofs.Common.{◌≡◌, ℕ, zero, suc, ◌-◌, List, [], ◌∷◌, ◌++◌, Option, append_assoc, refl, sym, ◌∙◌, ap, subst, arith}
 use Rattle.std.specs.Prelude.{Result, Ok, Err, OnOk}
 use Rattle.std.specs.Option.{option_map_or}
 use Rattle.event_deeds.specs.Deeds.{DeedEffect, deed, deeds}
 use Rattle.event_deeds.specs.declared.deed.Deed.{Deed}
 use Rattle.fork_lists.specs.declared.lists.ForkLists.{ForkLists}
 use Rattle.machine_names.specs.declared.names.Tty.{Tty}
-use Rattle.page_contracts.specs.DrumWords.{DrumWords, Stands}
+use Rattle.page_contracts.specs.DrumWords.{DrumWords}
 use Rattle.page_waits.specs.Systems.{SystemMeaning}
 use Rattle.plain_model.specs.State.{PlainState}
 use Rattle.plain_model.specs.TypeEvents.{typed_all, typed_at}
 use Rattle.plain_model.specs.Unit.{Effect}
-use Rattle.script_texts.specs.declared.event.Item.{Item}
 use Rattle.script_texts.specs.Taker.{GoesOn, IsCut}
 use Rattle.script_texts.proofs.Takers.{cut_behind, cut_longer, goes_on_append, goes_on_nil}
 use Rattle.paged_events.specs.Calmly.{StaysInCore}
 use Rattle.paged_events.specs.Given.{Standing}
+use Rattle.paged_events.specs.Turns.{WhereTold}
 use Rattle.paged_events.specs.Typing.{CutPart, CutTyped, DidPart, DidTyped, ShowedFirst, Typed}
 use Rattle.paged_events.specs.declared.fault.Fault.{Fault}
-use Rattle.paged_events.specs.declared.fault.Fault.TheVariants.{Drum, Taker}
 
 -- one effect, and then another on what it leaves
 abbrev pub joined : Effect → (PlainState → Effect) → Effect
@@ -48,12 +47,8 @@ unfolding deeds
 deeds_none s d = refl
 
 module _ {S : Type 0} (means : SystemMeaning S) {D T : Type 0} (held : D → Option DrumWords) (stands cut : Standing T) where
-  -- so it is of each plain state from which it begins
-  abbrev pub IsSo : S → D → (PlainState → Type 0) → Type 0
-  IsSo s drum P = (words : DrumWords) → Stands means.store.flat (held drum) words → means.fits s words → P (means.plain s words)
-
   -- nothing is typed
-  pub did_none : (f : PlainState → Effect) (s : S) (drum : D) (out : T) → IsSo s drum (λ p. f p ≡ record { state = p; items = [] }) → DidTyped means held stands cut f s s drum drum out out
+  pub did_none : (f : PlainState → Effect) (s : S) (drum : D) (out : T) → WhereTold means held s drum (λ p. f p ≡ record { state = p; items = [] }) → DidTyped means held stands cut f s s drum drum out out
   did_none f s drum out none = record {
     each = λ words st fits.
         let is = none words st fits in
@@ -61,7 +56,7 @@ module _ {S : Type 0} (means : SystemMeaning S) {D T : Type 0} (held : D → Opt
   }
 
   -- the same under another name
-  pub did_same : (f h : PlainState → Effect) (s s' : S) (drum drum' : D) (out out' : T) → IsSo s drum (λ p. h p ≡ f p) → DidTyped means held stands cut f s s' drum drum' out out' → DidTyped means held stands cut h s s' drum drum' out out'
+  pub did_same : (f h : PlainState → Effect) (s s' : S) (drum drum' : D) (out out' : T) → WhereTold means held s drum (λ p. h p ≡ f p) → DidTyped means held stands cut f s s' drum drum' out out' → DidTyped means held stands cut h s s' drum drum' out out'
   did_same f h s s' drum drum' out out' same did = record {
     each = λ words st fits.
         let x = did.each words st fits in
@@ -69,7 +64,7 @@ module _ {S : Type 0} (means : SystemMeaning S) {D T : Type 0} (held : D → Opt
         (x.0, x.1, x.2, x.3 ∙ sym (ap (λ (e : Effect). e.state) is), subst (λ (e : Effect). GoesOn stands out out' e.items []) (sym is) x.4);
   }
 
-  pub did_then : (f g h : PlainState → Effect) (s0 s1 s2 : S) (d0 d1 d2 : D) (o0 o1 o2 : T) → IsSo s0 d0 (λ p. h p ≡ joined (f p) g) → DidTyped means held stands cut f s0 s1 d0 d1 o0 o1 → DidTyped means held stands cut g s1 s2 d1 d2 o1 o2
+  pub did_then : (f g h : PlainState → Effect) (s0 s1 s2 : S) (d0 d1 d2 : D) (o0 o1 o2 : T) → WhereTold means held s0 d0 (λ p. h p ≡ joined (f p) g) → DidTyped means held stands cut f s0 s1 d0 d1 o0 o1 → DidTyped means held stands cut g s1 s2 d1 d2 o1 o2
       → DidTyped means held stands cut h s0 s2 d0 d2 o0 o2
   did_then f g h s0 s1 s2 d0 d1 d2 o0 o1 o2 same first second = record {
     each = λ words st fits.
@@ -86,7 +81,7 @@ module _ {S : Type 0} (means : SystemMeaning S) {D T : Type 0} (held : D → Opt
         );
   }
 
-  pub first_then : (f g h : PlainState → Effect) (s0 s1 : S) (d0 d1 : D) (o0 o1 o2 : T) → IsSo s0 d0 (λ p. h p ≡ joined (f p) g) → DidTyped means held stands cut f s0 s1 d0 d1 o0 o1 → ShowedFirst means held stands cut g s1 d1 o1 o2
+  pub first_then : (f g h : PlainState → Effect) (s0 s1 : S) (d0 d1 : D) (o0 o1 o2 : T) → WhereTold means held s0 d0 (λ p. h p ≡ joined (f p) g) → DidTyped means held stands cut f s0 s1 d0 d1 o0 o1 → ShowedFirst means held stands cut g s1 d1 o1 o2
       → ShowedFirst means held stands cut h s0 d0 o0 o2
   first_then f g h s0 s1 d0 d1 o0 o1 o2 same first second = record {
     each = λ words st fits.
@@ -101,7 +96,7 @@ module _ {S : Type 0} (means : SystemMeaning S) {D T : Type 0} (held : D → Opt
         );
   }
 
-  pub cut_then : (f g h : PlainState → Effect) (s0 s1 : S) (d0 d1 : D) (o0 o1 o2 : T) → IsSo s0 d0 (λ p. h p ≡ joined (f p) g) → DidTyped means held stands cut f s0 s1 d0 d1 o0 o1 → CutTyped means held stands cut g s1 d1 o1 o2
+  pub cut_then : (f g h : PlainState → Effect) (s0 s1 : S) (d0 d1 : D) (o0 o1 o2 : T) → WhereTold means held s0 d0 (λ p. h p ≡ joined (f p) g) → DidTyped means held stands cut f s0 s1 d0 d1 o0 o1 → CutTyped means held stands cut g s1 d1 o1 o2
       → CutTyped means held stands cut h s0 d0 o0 o2
   cut_then f g h s0 s1 d0 d1 o0 o1 o2 same first second = record {
     each = λ words st fits.
@@ -112,7 +107,7 @@ module _ {S : Type 0} (means : SystemMeaning S) {D T : Type 0} (held : D → Opt
   }
 
   -- what failed within the first part failed within both
-  pub first_part : (f h : PlainState → Effect) (s : S) (drum : D) (out out' : T) → IsSo s drum (λ p. (g : PlainState → Effect) × (h p ≡ joined (f p) g)) → ShowedFirst means held stands cut f s drum out out' → ShowedFirst means held stands cut h s drum out out'
+  pub first_part : (f h : PlainState → Effect) (s : S) (drum : D) (out out' : T) → WhereTold means held s drum (λ p. (g : PlainState → Effect) × (h p ≡ joined (f p) g)) → ShowedFirst means held stands cut f s drum out out' → ShowedFirst means held stands cut h s drum out out'
   first_part f h s drum out out' same failed = record {
     each = λ words st fits.
         let x = failed.each words st fits in
@@ -121,7 +116,7 @@ module _ {S : Type 0} (means : SystemMeaning S) {D T : Type 0} (held : D → Opt
         (x.0, x.1 ++ (is.0 (f p).state).items, ap (λ (e : Effect). e.items) is.1 ∙ ap (λ items. items ++ (is.0 (f p).state).items) x.2 ∙ append_assoc x.0 x.1 (is.0 (f p).state).items, x.3);
   }
 
-  pub cut_part : (f h : PlainState → Effect) (s : S) (drum : D) (out out' : T) → IsSo s drum (λ p. (g : PlainState → Effect) × (h p ≡ joined (f p) g)) → CutTyped means held stands cut f s drum out out' → CutTyped means held stands cut h s drum out out'
+  pub cut_part : (f h : PlainState → Effect) (s : S) (drum : D) (out out' : T) → WhereTold means held s drum (λ p. (g : PlainState → Effect) × (h p ≡ joined (f p) g)) → CutTyped means held stands cut f s drum out out' → CutTyped means held stands cut h s drum out out'
   cut_part f h s drum out out' same failed = record {
     each = λ words st fits.
         let is = same words st fits in
@@ -134,7 +129,7 @@ module _ {S : Type 0} (means : SystemMeaning S) {D T : Type 0} (held : D → Opt
   first_none f s drum out = record { each = λ words st fits. ([], (f (means.plain s words)).items, refl, goes_on_nil stands out) }
 
   -- what comes behind what was typed
-  pub typed_behind : {X : Type 0} (r : Result X Fault) (f g h : PlainState → Effect) (s0 s1 s2 : S) (d0 d1 d2 : D) (o0 o1 o2 : T) → IsSo s0 d0 (λ p. h p ≡ joined (f p) g) → DidTyped means held stands cut f s0 s1 d0 d1 o0 o1
+  pub typed_behind : {X : Type 0} (r : Result X Fault) (f g h : PlainState → Effect) (s0 s1 s2 : S) (d0 d1 d2 : D) (o0 o1 o2 : T) → WhereTold means held s0 d0 (λ p. h p ≡ joined (f p) g) → DidTyped means held stands cut f s0 s1 d0 d1 o0 o1
       → Typed means held stands cut g r s1 s2 d1 d2 o1 o2 → Typed means held stands cut h r s0 s2 d0 d2 o0 o2
   typed_behind r f g h s0 s1 s2 d0 d1 d2 o0 o1 o2 same first second = record {
     ok = all r second.ok;
@@ -147,7 +142,7 @@ module _ {S : Type 0} (means : SystemMeaning S) {D T : Type 0} (held : D → Opt
       all (Err e) did = tt
 
   -- the same under another name, whatever came of it
-  pub typed_same : {X : Type 0} (r : Result X Fault) (f h : PlainState → Effect) (s s' : S) (drum drum' : D) (out out' : T) → IsSo s drum (λ p. h p ≡ f p) → Typed means held stands cut f r s s' drum drum' out out' → Typed means held stands cut h r s s' drum drum' out out'
+  pub typed_same : {X : Type 0} (r : Result X Fault) (f h : PlainState → Effect) (s s' : S) (drum drum' : D) (out out' : T) → WhereTold means held s drum (λ p. h p ≡ f p) → Typed means held stands cut f r s s' drum drum' out out' → Typed means held stands cut h r s s' drum drum' out out'
   typed_same r f h s s' drum drum' out out' same typed = record {
     ok = all r typed.ok;
     stopped = λ is. record {
@@ -181,10 +176,10 @@ module _ {S : Type 0} (means : SystemMeaning S) {D T : Type 0} (held : D → Opt
     one_more : left ≡ suc (left - 1)
     one_more = omega (arith, some)
 
-    pub deeds_so : (s : S) (drum : D) → IsSo s drum (λ p. (g : PlainState → Effect) × (deeds left p d ≡ joined (effect_of (deed p d)) g))
+    pub deeds_so : (s : S) (drum : D) → WhereTold means held s drum (λ p. (g : PlainState → Effect) × (deeds left p d ≡ joined (effect_of (deed p d)) g))
     deeds_so s drum words st fits = let p = means.plain s words in (behind (left - 1) (deed p d).next, ap (λ n. deeds n p d) one_more ∙ deeds_are (left - 1) p d)
 
-    pub part_so : (next : Option Deed) (s s' : S) (drum drum' : D) (out out' : T) → DidPart means held stands cut d next s s' drum drum' out out' → IsSo s drum (λ p. deeds left p d ≡ joined (effect_of (deed p d)) (behind (left - 1) next))
+    pub part_so : (next : Option Deed) (s s' : S) (drum drum' : D) (out out' : T) → DidPart means held stands cut d next s s' drum drum' out out' → WhereTold means held s drum (λ p. deeds left p d ≡ joined (effect_of (deed p d)) (behind (left - 1) next))
     part_so next s s' drum drum' out out' part words st fits =
         let p = means.plain s words in
         ap (λ n. deeds n p d) one_more ∙ deeds_are (left - 1) p d ∙ ap (λ o. joined (effect_of (deed p d)) (behind (left - 1) o)) (sym (part.each words st fits).5)

@@ -1,6 +1,5 @@
 -- Turns of a run that were given.
-use Rattle.std.proofs.Common.{◌≡◌, ℕ, zero, suc, ◌+◌, ◌≤◌, List, [], ◌∷◌, ◌++◌, Bool, true, Option, replicate, length, refl, sym, ◌∙◌, ap, subst, arith}
-use Rattle.std.proofs.lemmas.List.{length-replicate}
+use Rattle.std.proofs.Common.{◌≡◌, ℕ, zero, suc, [], ◌++◌, Bool, true, Option, replicate, refl, sym, ◌∙◌, ap, subst}
 use Rattle.machine_names.specs.declared.names.ForkName.{ForkName}
 use Rattle.page_contracts.specs.DrumWords.{DrumWords}
 use Rattle.page_waits.specs.Acts.{IdledOver, RanOver}

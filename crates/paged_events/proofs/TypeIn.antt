@@ -1,10 +1,9 @@
 -- TYPE: the characters of a text, and the step behind them.
 use Rattle.std.proofs.Common.{◌≡◌, ℕ, List, [], ◌∷◌, ◌++◌, Bool, true, false, Option, None, Some, is_some, inr, ◌-◌, drop, length, refl, sym, ◌∙◌, ap, subst, arith}
-use Rattle.std.proofs.lemmas.List.{append-nil}
 use Rattle.std.specs.FinMap as map
 use Rattle.std.specs.Option.{option_map_or}
 use Rattle.machine_names.specs.declared.names.Tty.{Tty}
-use Rattle.page_contracts.specs.DrumWords.{DrumWords, Stands}
+use Rattle.page_contracts.specs.DrumWords.{DrumWords}
 use Rattle.page_waits.specs.Systems.{SystemMeaning}
 use Rattle.plain_model.specs.Run.{apply}
 use Rattle.plain_model.specs.State.{PlainJob, PlainState}
@@ -12,7 +11,6 @@ use Rattle.plain_model.specs.TypeEvents.{typed_all}
 use Rattle.plain_model.specs.Unit.{Effect, refused}
 use Rattle.plain_model.proofs.Equations.{apply_outer, outer_type_in}
 use Rattle.script_texts.specs.declared.event.Event.TheVariants.{TypeIn}
-use Rattle.script_texts.specs.declared.event.Item.{Item}
 use Rattle.script_texts.specs.declared.event.Item.TheVariants.{Refusal}
 use Rattle.script_texts.specs.declared.event.Refusal.TheVariants.{NoJob}
 use Rattle.script_texts.specs.declared.event.Step.{Step}
@@ -24,10 +22,11 @@ use Rattle.machine_events.specs.Outcome.{CutOver, GaveBefore}
 use Rattle.paged_events.specs.Typing.{CutTyped, DidTyped, ShowedFirst}
 
 -- all characters of a text
+pub all_of : (text xs : List ℕ) (n : ℕ) → xs ≡ text → n ≡ length xs → drop (length xs - n) xs ≡ text
+all_of text xs n same all = let none : length xs - n ≡ 0 = omega (arith, all) in ap (λ k. drop k xs) none ∙ same
+
 pub whole_text : (s : PlainState) (t : Tty) (text xs : List ℕ) (n : ℕ) → xs ≡ text → n ≡ length xs → typed_all s t text ≡ typed_all s t (drop (length xs - n) xs)
-whole_text s t text xs n same all =
-    let none : length xs - n ≡ 0 = omega (arith, all) in
-    ap (typed_all s t) (sym (ap (λ k. drop k xs) none ∙ same))
+whole_text s t text xs n same all = ap (typed_all s t) (sym (all_of text xs n same all))
 
 module _ (t : Tty) (text : List ℕ) where
   abbrev own : List Step

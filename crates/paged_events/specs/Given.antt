@@ -1,9 +1,8 @@
 -- What was given of an event, over what the drum told and tells.
-use Rattle.std.specs.Prelude.{◌≡◌, ℕ, ◌+◌, ◌≤◌, List, [], length, Bool, Option, Result, Err, IfOk}
+use Rattle.std.specs.Prelude.{◌≡◌, ℕ, ◌+◌, ◌≤◌, List, length, Bool, Option, Result, Err, IfOk}
 use Rattle.fork_lists.specs.declared.lists.ForkLists.{ForkLists}
 use Rattle.page_contracts.specs.DrumWords.{DrumWords}
 use Rattle.page_waits.specs.Systems.{SystemMeaning}
-use Rattle.plain_model.specs.State.{PlainState}
 use Rattle.script_texts.specs.Follows.{FollowsOne}
 use Rattle.script_texts.specs.declared.event.Event.{Event}
 use Rattle.script_texts.specs.declared.event.Event.TheVariants.{Run}
@@ -11,6 +10,7 @@ use Rattle.script_texts.specs.declared.event.Item.{Item}
 use Rattle.script_texts.specs.declared.event.Step.{Step}
 use Rattle.machine_events.specs.Outcome.{CutOff, GaveOver, Stopped}
 use Rattle.paged_events.specs.Calmly.{GoesCalmly, TurnsCalmly}
+use Rattle.paged_events.specs.Turns.{AreTurnsOver}
 use Rattle.paged_events.specs.declared.fault.Fault.{Fault}
 use Rattle.paged_events.specs.declared.fault.Fault.TheVariants.{Drum, Taker}
 
@@ -44,14 +44,16 @@ module _ {S : Type 0} (means : SystemMeaning S) where
       pub adds : Adds count s s'
       pub told : Gives auto s s' drum drum' out out' steps
 
-    -- they were given, and where all was in core they went calmly
+    -- they were given and took their turns, and where all was in core they went calmly
     pub record GivenCalmly (auto : Bool) (event : Event) (count : ℕ) (s s' : S) (l l' : ForkLists) (drum drum' : D) (out out' : T) : Type 0 where
       pub given : Given auto event count s s' drum drum' out out'
+      pub turns : AreTurnsOver means held given.steps s l l' drum
       pub calm : GoesCalmly means held event given.steps s s' l l' drum
 
-    -- so many turns of a run were given, and where all was in core they came calmly
+    -- so many turns of a run were given and taken, and where all was in core they came calmly
     pub record GivenTurns (auto : Bool) (count : ℕ) (s s' : S) (l l' : ForkLists) (drum drum' : D) (out out' : T) : Type 0 where
       pub given : Given auto (Run count) count s s' drum drum' out out'
+      pub turns : AreTurnsOver means held given.steps s l l' drum
       pub calm : TurnsCalmly means held given.steps s s' l l' drum
 
     -- AN EVENT WAS ACTED ON: its steps were given; or the drum failed before they were, or the taker within them

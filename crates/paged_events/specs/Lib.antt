@@ -4,4 +4,5 @@ pub mod Calmly
 pub mod Given
 pub mod Typing
 pub mod Rows
+pub mod Turns
 pub mod Events

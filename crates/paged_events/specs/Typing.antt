@@ -1,5 +1,5 @@
 -- What was typed and shown, over what the drum told and tells.
-use Rattle.std.specs.Prelude.{◌≡◌, ◌++◌, List, [], Option, Result, Err, IfOk, OnOk}
+use Rattle.std.specs.Prelude.{◌≡◌, ◌++◌, List, [], Option, Result, Err, OnOk}
 use Rattle.event_deeds.specs.Deeds.{deed}
 use Rattle.event_deeds.specs.declared.deed.Deed.{Deed}
 use Rattle.page_contracts.specs.DrumWords.{DrumWords, Stands}

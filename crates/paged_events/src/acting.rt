@@ -9,7 +9,7 @@ ghost use Rattle.page_waits.specs.InCore.{IsInCore};
 ghost use Rattle.page_waits.specs.Systems.{StaysState};
 ghost use Rattle.page_waits.specs.Waits.{the_lists};
 ghost use Rattle.page_waits.specs.Machines.{IsBare, KeepsMarks, auto, limit};
-ghost use Rattle.page_waits.specs.Told.{TookDeed};
+ghost use Rattle.page_waits.specs.Told.{MovesSilently, TookDeed};
 ghost use Rattle.script_texts.specs.Limits.{FitsCause};
 ghost use Rattle.paged_events.specs.Given.{Acted, IsWithin};
 ghost use Rattle.paged_events.specs.Outside.{UsesOutside};
@@ -39,6 +39,7 @@ pub fn step<S: System, D: Drum, T: Taker>(
     ensures marks { KeepsMarks waits.old waits.new }
     ensures took { IfOk result (λ n. TookDeed (S.means.tree waits.old.system).forks (S.means.tree waits.new.system).forks waits.old.lists.sched waits.new.lists.sched) }
 {
+    waits.lists_are_sound();
     match waits.bring_told(&Deed::Outer(*e), drum) {
         Ok(answer) => match give_row(waits, &Step::Outer(*e), 1, &answer.showing, out) {
             Ok(()) => Ok(1),
@@ -68,6 +69,7 @@ pub fn look<S: System, D: Drum, T: Taker>(
     ensures marks { KeepsMarks waits.old waits.new }
     ensures took { IfOk result (λ n. TookDeed (S.means.tree waits.old.system).forks (S.means.tree waits.new.system).forks waits.old.lists.sched waits.new.lists.sched) }
 {
+    waits.lists_are_sound();
     match waits.bring(&Deed::Outer(*e), drum) {
         Ok(came) => match came {
             Some(answer) => match give_row(waits, &Step::Outer(*e), 1, &answer.showing, out) {
@@ -88,6 +90,7 @@ pub fn evict<S: System>(waits: &mut Waits<S>, frame: u32) -> Result<u32, Fault>
     ensures none { result ≡ Ok 0 }
     ensures evicts { Evicts S.means.store frame waits.old.system waits.new.system }
     ensures state { StaysState S.means waits.old.system waits.new.system }
+    ensures lists { waits.new.lists ≡ waits.old.lists }
     ensures bare { IsBare waits.old → IsBare waits.new }
     ensures marks { KeepsMarks waits.old waits.new }
 {
@@ -112,6 +115,7 @@ pub fn end_transfers<S: System, D: Drum>(
     ensures fails { result ≡ Err Fault.Taker → ⊥ }
     ensures quiet { OnOk result (Quiet S.means the_lists D.held None None None 0 waits.old.system waits.new.system waits.old.lists waits.new.lists drum.old drum.new) }
     ensures oldest { OnOk result (S.means.store.queue waits.new.system ≡ drop n (S.means.store.queue waits.old.system)) }
+    ensures silent { OnOk result (MovesSilently waits.old.lists.sched waits.new.lists.sched) }
     ensures core { (frames : ℕ) → IsInCore S.means frames waits.old.system waits.old.lists → OnOk result (IsInCore S.means frames waits.new.system waits.new.lists) }
     ensures bare { IsBare waits.new }
     ensures marks { KeepsMarks waits.old waits.new }

@@ -6,8 +6,10 @@
 mod acting;
 mod fault;
 mod giving;
+mod laws;
 mod machine;
 mod running;
 mod typing;
 
+pub use laws::{calm_turns_over_frames_pass_nobody_over, turns_over_frames_are_of_the_head};
 pub use machine::Machine;

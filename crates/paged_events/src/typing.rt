@@ -1,15 +1,18 @@
 // TYPE: the characters of a text, each in its deeds, and the step behind them.
 ghost use Rattle.std.specs.Prelude.{◌≡◌, ◌<◌, ◌≤◌, ◌-◌, ◌^◌, All, Err, IfOk, IfSome, OnOk, drop, length};
-ghost use Rattle.event_deeds.specs.Deeds.{deeds as deeds_of};
+ghost use Rattle.event_deeds.specs.Deeds.{deeds as deeds_of, most_deeds};
+ghost use Rattle.event_deeds.specs.declared.deed.Deed.{Deed as ADeed};
 ghost use Rattle.machine_names.specs.Bounds.{IsTerminal};
 ghost use Rattle.plain_model.specs.TypeEvents.{typed_all, typed_at};
 ghost use Rattle.script_texts.specs.Limits.{FitsEvent};
 ghost use Rattle.script_texts.specs.declared.event.Event.{Event as AnEvent};
 ghost use Rattle.page_waits.specs.Machines.{IsBare, KeepsMarks, auto, limit};
 ghost use Rattle.event_deeds.specs.Deeds.{IsNext};
+ghost use Rattle.page_waits.specs.Told.{TookDeed};
 ghost use Rattle.paged_events.specs.Calmly.{StaysInCore};
 ghost use Rattle.paged_events.specs.Given.{Acted, IsWithin, StaysWithin};
 ghost use Rattle.paged_events.specs.Outside.{UsesOutside};
+ghost use Rattle.paged_events.specs.Turns.{TookDeeds, TookText, WhereTold};
 ghost use Rattle.paged_events.specs.Typing.{CutPart, DidPart, Typed};
 
 use crate::fault::Fault;
@@ -39,6 +42,7 @@ fn part<S: System, D: Drum, T: Taker>(
     ensures next { IfOk result (λ next. IfSome next IsNext) }
     ensures outside { UsesOutside T.onward T.fault_count D.fault_count D.read_count D.write_count D.size result out.old out.new drum.old drum.new }
     ensures within { IfOk result (λ next. StaysWithin S.means waits.old.system waits.new.system) }
+    ensures took { IfOk result (λ next. TookDeed (S.means.tree waits.old.system).forks (S.means.tree waits.new.system).forks waits.old.lists.sched waits.new.lists.sched) }
     ensures core { IfOk result (λ next. StaysInCore S.means D.held waits.old.system waits.new.system waits.old.lists waits.new.lists drum.old) }
     ensures bare { IfOk result (λ next. IsBare waits.new) }
     ensures marks { KeepsMarks waits.old waits.new }
@@ -67,6 +71,7 @@ fn deeds<S: System, D: Drum, T: Taker>(
     ensures typed { Typed S.means D.held T.stands T.cut (λ s. deeds_of left s deed.now) result waits.old.system waits.new.system drum.old drum.new out.old out.new }
     ensures outside { UsesOutside T.onward T.fault_count D.fault_count D.read_count D.write_count D.size result out.old out.new drum.old drum.new }
     ensures within { OnOk result (StaysWithin S.means waits.old.system waits.new.system) }
+    ensures lists { OnOk result (WhereTold S.means D.held waits.old.system drum.old (λ p. TookDeeds left p deed.now waits.old.lists.sched waits.new.lists.sched)) }
     ensures core { OnOk result (StaysInCore S.means D.held waits.old.system waits.new.system waits.old.lists waits.new.lists drum.old) }
     ensures bare { OnOk result (IsBare waits.new) }
     ensures marks { KeepsMarks waits.old waits.new }
@@ -99,6 +104,7 @@ fn type_one<S: System, D: Drum, T: Taker>(
     ensures typed { Typed S.means D.held T.stands T.cut (λ s. typed_at s t code) result waits.old.system waits.new.system drum.old drum.new out.old out.new }
     ensures outside { UsesOutside T.onward T.fault_count D.fault_count D.read_count D.write_count D.size result out.old out.new drum.old drum.new }
     ensures within { OnOk result (StaysWithin S.means waits.old.system waits.new.system) }
+    ensures lists { OnOk result (WhereTold S.means D.held waits.old.system drum.old (λ p. TookDeeds most_deeds p (ADeed.Typed t code) waits.old.lists.sched waits.new.lists.sched)) }
     ensures core { OnOk result (StaysInCore S.means D.held waits.old.system waits.new.system waits.old.lists waits.new.lists drum.old) }
     ensures bare { OnOk result (IsBare waits.new) }
     ensures marks { KeepsMarks waits.old waits.new }
@@ -125,6 +131,7 @@ fn type_text<S: System, D: Drum, T: Taker>(
     ensures typed { Typed S.means D.held T.stands T.cut (λ s. typed_all s t (drop (length text.now - left) text.now)) result waits.old.system waits.new.system drum.old drum.new out.old out.new }
     ensures outside { UsesOutside T.onward T.fault_count D.fault_count D.read_count D.write_count D.size result out.old out.new drum.old drum.new }
     ensures within { OnOk result (StaysWithin S.means waits.old.system waits.new.system) }
+    ensures lists { OnOk result (WhereTold S.means D.held waits.old.system drum.old (λ p. TookText p t (drop (length text.now - left) text.now) waits.old.lists.sched waits.new.lists.sched)) }
     ensures core { OnOk result (StaysInCore S.means D.held waits.old.system waits.new.system waits.old.lists waits.new.lists drum.old) }
     ensures bare { OnOk result (IsBare waits.new) }
     ensures marks { KeepsMarks waits.old waits.new }
@@ -156,6 +163,7 @@ pub fn type_in<S: System, D: Drum, T: Taker>(
     ensures bare { IfOk result (λ n. IsBare waits.new) }
     ensures marks { KeepsMarks waits.old waits.new }
 {
+    waits.lists_are_sound();
     let step = Step::Outer(Event::TypeIn(t, text));
     if waits.has_job(t) {
         let codes = text.as_slice();

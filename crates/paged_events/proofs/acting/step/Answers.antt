@@ -1,14 +1,15 @@
 use Rattle.std.proofs.Common.{◌∷◌, [], inr, ap, refl}
-use Rattle.std.specs.Prelude.{Ok}
 use Rattle.page_waits.specs.Waits.{the_lists}
+use Rattle.plain_model.specs.Trees.{PlainTree}
 use Rattle.script_texts.specs.declared.event.Step.TheVariants.{Outer}
-use Rattle.paged_events.proofs.Acted.{adds_counted, adds_some, begins_single, event_cut, event_given, follows_single, nothing_given, one_goes, unfinished_single}
-use Rattle.paged_events.proofs.Deeds.{deed_cut, deed_gave, spent_cut, spent_gave}
+use Rattle.paged_events.proofs.Acted.{adds_counted, begins_single, event_cut, event_given, follows_single, nothing_given, one_goes, unfinished_single}
+use Rattle.paged_events.proofs.Deeds.{deed_cut, deed_gave}
+use Rattle.paged_events.proofs.Entries.{deed_told}
 use Rattle.paged_events.proofs.Outside.{outside_drum, outside_taker, outside_then, uses_drum, uses_taker, uses_well}
 use Rattle.paged_events.proofs.acting.step.Goals as goal
 
 pub returns-in-Ok-give_row-clause-acted : goal.returns-in-Ok-give_row-clause-acted
-returns-in-Ok-give_row-clause-acted g c = event_given g.S.System.means g.D.Drum.held g.T.Taker.stands g.T.Taker.cut c.args.waits.now.auto c.args.e.now c.args.waits.now.system c.bring_told.new.self.system c.args.waits.now.lists c.bring_told.new.self.lists c.args.drum.now c.bring_told.new.drum c.args.out.now c.give_row.new.out 1 (Outer c.args.e.now ∷ []) (follows_single c.args.e.now c.requires.deed.0.1) refl (adds_counted g.S.System.means 1 c.args.waits.now.system c.bring_told.new.self.system c.in-Ok.ensures.within) (deed_gave g.S.System.means the_lists g.D.Drum.held g.T.Taker.stands g.T.Taker.cut c.args.waits.now.auto c.args.e.now c.in-Ok.answer c.args.waits.now.system c.bring_told.new.self.system c.args.drum.now c.bring_told.new.drum c.args.out.now c.give_row.new.out c.in-Ok.ensures.did c.in-Ok-give_row.ensures.ok) (one_goes g.S.System.means g.D.Drum.held c.args.e.now c.args.waits.now.system c.bring_told.new.self.system c.args.waits.now.lists c.bring_told.new.self.lists c.args.drum.now (λ frames d st fits core roomy. c.in-Ok.ensures.calm frames d fits core (inr roomy)))
+returns-in-Ok-give_row-clause-acted g c = event_given g.S.System.means g.D.Drum.held g.T.Taker.stands g.T.Taker.cut c.args.waits.now.auto c.args.e.now c.args.waits.now.system c.bring_told.new.self.system c.args.waits.now.lists c.bring_told.new.self.lists c.args.drum.now c.bring_told.new.drum c.args.out.now c.give_row.new.out 1 (Outer c.args.e.now ∷ []) (follows_single c.args.e.now c.requires.deed.0.1) refl (adds_counted g.S.System.means 1 c.args.waits.now.system c.bring_told.new.self.system c.in-Ok.ensures.within) (deed_gave g.S.System.means the_lists g.D.Drum.held g.T.Taker.stands g.T.Taker.cut c.args.waits.now.auto c.args.e.now c.in-Ok.answer c.args.waits.now.system c.bring_told.new.self.system c.args.drum.now c.bring_told.new.drum c.args.out.now c.give_row.new.out c.in-Ok.ensures.did c.in-Ok-give_row.ensures.ok) (deed_told g.S.System.means g.D.Drum.held (λ s d fits. ap (λ (t : PlainTree). t.forks) (g.met.S.System.forked s d fits)) c.args.waits.now.system c.args.waits.now.lists c.args.drum.now c.lists_are_sound.ensures.tied c.lists_are_sound.ensures.sound c.args.e.now c.in-Ok.answer c.bring_told.new.self.system c.bring_told.new.self.lists c.bring_told.new.drum c.requires.deed.1 c.in-Ok.ensures.did c.in-Ok.ensures.took) (one_goes g.S.System.means g.D.Drum.held c.args.e.now c.args.waits.now.system c.bring_told.new.self.system c.args.waits.now.lists c.bring_told.new.self.lists c.args.drum.now (λ frames d st fits core roomy. c.in-Ok.ensures.calm frames d fits core (inr roomy)))
 
 pub returns-in-Err-give_row-clause-acted : goal.returns-in-Err-give_row-clause-acted
 returns-in-Err-give_row-clause-acted g c = event_cut g.S.System.means g.D.Drum.held g.T.Taker.stands g.T.Taker.cut c.args.waits.now.auto c.args.e.now c.args.waits.now.system c.bring_told.new.self.system c.args.waits.now.lists c.bring_told.new.self.lists c.args.drum.now c.bring_told.new.drum c.args.out.now c.give_row.new.out (Outer c.args.e.now ∷ []) (begins_single c.args.e.now c.requires.deed.0.1) (deed_cut g.S.System.means the_lists g.D.Drum.held g.T.Taker.stands g.T.Taker.cut c.args.waits.now.auto c.args.e.now c.in-Ok.answer c.args.waits.now.system c.bring_told.new.self.system c.args.drum.now c.bring_told.new.drum c.args.out.now c.give_row.new.out c.in-Ok.ensures.did c.in-Err-give_row.ensures.err)

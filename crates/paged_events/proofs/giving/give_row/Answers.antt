@@ -1,6 +1,4 @@
-use Rattle.std.proofs.Common.{arith}
 use Rattle.std.proofs.lemmas.Result.{on_err_weaker, on_ok_weaker}
-use Rattle.script_texts.proofs.Takers.{onward_then}
 use Rattle.paged_events.proofs.GivenRows.{cut_in_items, cut_in_last, cut_in_steps, no_ok, on_err, row_ok}
 use Rattle.paged_events.proofs.giving.give_row.Goals as goal
 

@@ -1,13 +1,15 @@
-use Rattle.std.proofs.Common.{◌≡◌, ◌≤◌, ℕ, Bool, true, false, [], drop, refl, sym, ◌∙◌, ap, subst, arith}
-use Rattle.std.specs.Prelude.{Result, Ok, Err}
+use Rattle.std.proofs.Common.{[], refl, sym, ◌∙◌, ap, subst}
+use Rattle.std.specs.Prelude.{Ok}
 use Rattle.script_texts.specs.declared.event.Event.{Event}
-use Rattle.script_texts.specs.declared.event.Event.TheVariants.{Auto, Drum, Evict, Run}
+use Rattle.script_texts.specs.declared.event.Event.TheVariants.{Auto, Evict}
 use Rattle.script_texts.specs.Follows.{auto_after}
 use Rattle.fork_lists.specs.declared.lists.ForkLists.{ForkLists}
-use Rattle.paged_events.specs.Given.{Acted, Gives}
-use Rattle.paged_events.specs.declared.fault.Fault.{Fault}
+use Rattle.page_waits.proofs.Silence.{silent_nil}
+use Rattle.page_waits.specs.Told.{MovesSilently}
+use Rattle.paged_events.specs.Given.{Acted}
 use Rattle.paged_events.proofs.Acted.{adds_none, adds_some, event_given, nothing_goes, state_gave, transfers_acted}
-use Rattle.paged_events.proofs.Outside.{outside_nil, transfers_used, uses_well}
+use Rattle.paged_events.proofs.Entries.{no_entry}
+use Rattle.paged_events.proofs.Outside.{transfers_used}
 use Rattle.paged_events.proofs.Over.{over_none}
 use Rattle.paged_events.proofs.machine.act.Goals as goal
 
@@ -39,7 +41,7 @@ pub returns-in-Evict-clause-acted : goal.returns-in-Evict-clause-acted
 returns-in-Evict-clause-acted g c =
     subst (λ (e : Event). Acted g.S.System.means g.D.Drum.held g.T.Taker.stands g.T.Taker.cut c.args.waits.now.auto e c.evict.result c.args.waits.now.system c.evict.new.waits.system c.args.waits.now.lists c.evict.new.waits.lists c.args.drum.now c.args.drum.now c.args.out.now c.args.out.now) (sym c.in-Evict.is)
     (subst (λ r. Acted g.S.System.means g.D.Drum.held g.T.Taker.stands g.T.Taker.cut c.args.waits.now.auto (Evict c.in-Evict.frame) r c.args.waits.now.system c.evict.new.waits.system c.args.waits.now.lists c.evict.new.waits.lists c.args.drum.now c.args.drum.now c.args.out.now c.args.out.now) (sym c.evict.ensures.none)
-    (event_given g.S.System.means g.D.Drum.held g.T.Taker.stands g.T.Taker.cut c.args.waits.now.auto (Evict c.in-Evict.frame) c.args.waits.now.system c.evict.new.waits.system c.args.waits.now.lists c.evict.new.waits.lists c.args.drum.now c.args.drum.now c.args.out.now c.args.out.now 0 [] refl refl (adds_some g.S.System.means 0 c.args.waits.now.system c.evict.new.waits.system c.evict.ensures.state.told.within) (state_gave g.S.System.means g.D.Drum.held g.T.Taker.stands g.T.Taker.cut c.args.waits.now.auto c.args.waits.now.system c.evict.new.waits.system c.args.drum.now c.args.out.now c.evict.ensures.state) (λ frames d st fits core evict. absurd (evict c.in-Evict.frame refl))))
+    (event_given g.S.System.means g.D.Drum.held g.T.Taker.stands g.T.Taker.cut c.args.waits.now.auto (Evict c.in-Evict.frame) c.args.waits.now.system c.evict.new.waits.system c.args.waits.now.lists c.evict.new.waits.lists c.args.drum.now c.args.drum.now c.args.out.now c.args.out.now 0 [] refl refl (adds_some g.S.System.means 0 c.args.waits.now.system c.evict.new.waits.system c.evict.ensures.state.told.within) (state_gave g.S.System.means g.D.Drum.held g.T.Taker.stands g.T.Taker.cut c.args.waits.now.auto c.args.waits.now.system c.evict.new.waits.system c.args.drum.now c.args.out.now c.evict.ensures.state) (no_entry g.S.System.means g.D.Drum.held c.args.waits.now.system c.args.waits.now.lists c.evict.new.waits.lists c.args.drum.now (subst (λ (m : ForkLists). MovesSilently c.args.waits.now.lists.sched m.sched) (sym c.evict.ensures.lists) (silent_nil c.args.waits.now.lists.sched))) (λ frames d st fits core evict. absurd (evict c.in-Evict.frame refl))))
 
 pub returns-in-Evict-clause-auto : goal.returns-in-Evict-clause-auto
 returns-in-Evict-clause-auto g c =
@@ -48,7 +50,7 @@ returns-in-Evict-clause-auto g c =
 pub returns-in-Drum-clause-acted : goal.returns-in-Drum-clause-acted
 returns-in-Drum-clause-acted g c =
     subst (λ (e : Event). Acted g.S.System.means g.D.Drum.held g.T.Taker.stands g.T.Taker.cut c.args.waits.now.auto e c.end_transfers.result c.args.waits.now.system c.end_transfers.new.waits.system c.args.waits.now.lists c.end_transfers.new.waits.lists c.args.drum.now c.end_transfers.new.drum c.args.out.now c.args.out.now) (sym c.in-Drum.is)
-    (transfers_acted g.S.System.means g.D.Drum.held g.T.Taker.stands g.T.Taker.cut c.args.waits.now.auto c.in-Drum.n c.end_transfers.result c.args.waits.now.system c.end_transfers.new.waits.system c.args.waits.now.lists c.end_transfers.new.waits.lists c.args.drum.now c.end_transfers.new.drum c.args.out.now c.end_transfers.ensures.none c.end_transfers.ensures.quiet c.end_transfers.ensures.fails c.end_transfers.ensures.core)
+    (transfers_acted g.S.System.means g.D.Drum.held g.T.Taker.stands g.T.Taker.cut c.args.waits.now.auto c.in-Drum.n c.end_transfers.result c.args.waits.now.system c.end_transfers.new.waits.system c.args.waits.now.lists c.end_transfers.new.waits.lists c.args.drum.now c.end_transfers.new.drum c.args.out.now c.end_transfers.ensures.none c.end_transfers.ensures.quiet c.end_transfers.ensures.fails c.end_transfers.ensures.silent c.end_transfers.ensures.core)
 
 pub returns-in-Drum-clause-outside : goal.returns-in-Drum-clause-outside
 returns-in-Drum-clause-outside g c =
@@ -74,7 +76,7 @@ returns-in-Auto-clause-acted g c =
     (subst (λ r. Acted means held stands cut auto own r s c.set_auto.new.waits.system l c.set_auto.new.waits.lists drum drum out out) (sym c.set_auto.ensures.none)
     (subst (λ (m : ForkLists). Acted means held stands cut auto own (Ok 0) s c.set_auto.new.waits.system l m drum drum out out) (sym c.set_auto.ensures.lists)
     (subst (λ s'. Acted means held stands cut auto own (Ok 0) s s' l l drum drum out out) (sym c.set_auto.ensures.system)
-    (event_given means held stands cut auto own s s l l drum drum out out 0 [] refl refl (adds_none means s) (over_none means held stands cut auto s drum out) (nothing_goes means held own s s l l drum (λ frames core. core))))))
+    (event_given means held stands cut auto own s s l l drum drum out out 0 [] refl refl (adds_none means s) (over_none means held stands cut auto s drum out) (no_entry means held s l l drum (silent_nil l.sched)) (nothing_goes means held own s s l l drum (λ frames core. core))))))
 
 pub returns-in-Auto-clause-auto : goal.returns-in-Auto-clause-auto
 returns-in-Auto-clause-auto g c =

@@ -1,4 +1,4 @@
-use Rattle.std.proofs.Common.{◌≡◌, ◌+◌, ◌≤◌, ℕ, [], ◌∷◌, Bool, true, false, ◌&&◌, ◌^◌, replicate, length, refl, sym, ◌∙◌, ap, subst, arith}
+use Rattle.std.proofs.Common.{◌≡◌, ◌+◌, ◌≤◌, [], ◌∷◌, Bool, true, false, ◌&&◌, ◌^◌, replicate, refl, ◌∙◌, ap, subst, arith}
 use Rattle.std.proofs.lemmas.List.{length-replicate}
 use Rattle.script_texts.specs.declared.event.Event.TheVariants.{Run}
 use Rattle.script_texts.specs.declared.event.Step.TheVariants.{Idle, Unit}
@@ -12,6 +12,7 @@ use Rattle.page_waits.specs.Waits.{the_lists}
 use Rattle.paged_events.specs.Rows.{idle, units}
 use Rattle.paged_events.proofs.Acted.{adds_counted, adds_some, took_cut, took_given, took_stopped}
 use Rattle.paged_events.proofs.Coming.{idle_calm, units_calm}
+use Rattle.paged_events.proofs.Entries.{idle_told, units_told}
 use Rattle.paged_events.proofs.Outside.{outside_drum, outside_taker, outside_then, uses_drum, uses_taker, uses_well}
 use Rattle.paged_events.proofs.Over.{over_none, over_quiet, so_far}
 use Rattle.paged_events.proofs.Turning.{are_turns, idle_cut, idle_gave, units_cut, units_gave}
@@ -30,6 +31,8 @@ returns-in-Ok-end_quantum-clause-took g c =
     (adds_counted g.S.System.means c.in-Ran.row.progress.count c.args.waits.now.system c.end_quantum.new.self.system (λ k w. c.in-Ok-end_quantum.ensures.quiet.told.within (k + c.in-Ran.row.progress.count) ((subst (λ (w : Turn). Turned g.S.System.means the_lists g.D.Drum.held c.args.waits.now.auto c.args.waits.now.system c.turns.new.self.system c.args.drum.now c.turns.new.drum w) c.in-Ran.is c.in-Ok.ensures.turned).within k w)))
     (over_quiet g.S.System.means g.D.Drum.held g.T.Taker.stands g.T.Taker.cut c.args.waits.now.auto the_lists 0 c.args.waits.now.system c.turns.new.self.system c.end_quantum.new.self.system c.turns.new.self.lists c.end_quantum.new.self.lists c.args.drum.now c.turns.new.drum c.end_quantum.new.drum c.args.out.now c.give_units.new.out (row_of c.in-Ran.row.fork c.in-Ran.row.progress.count)
     (units_gave g.S.System.means the_lists g.D.Drum.held g.T.Taker.stands g.T.Taker.cut c.args.waits.now.auto c.in-Ran.row.fork c.in-Ran.row.progress c.args.waits.now.system c.turns.new.self.system c.args.drum.now c.turns.new.drum c.args.out.now c.give_units.new.out (subst (λ (w : Turn). Turned g.S.System.means the_lists g.D.Drum.held c.args.waits.now.auto c.args.waits.now.system c.turns.new.self.system c.args.drum.now c.turns.new.drum w) c.in-Ran.is c.in-Ok.ensures.turned) c.in-Ok-give_units.ensures.ok) c.in-Ok-end_quantum.ensures.quiet)
+    (units_told g.S.System.means g.D.Drum.held (λ s d fits. ap (λ (t : PlainTree). t.forks) (g.met.S.System.forked s d fits)) c.args.waits.now.system c.args.waits.now.lists c.args.drum.now c.lists_are_sound.ensures.tied c.lists_are_sound.ensures.sound c.in-Ran.row.fork c.in-Ran.row.progress c.in-Ran.row.ended c.turns.new.self.system c.turns.new.self.lists c.end_quantum.new.self.lists c.turns.new.drum some
+    (subst (λ (w : Turn). Turned g.S.System.means the_lists g.D.Drum.held c.args.waits.now.auto c.args.waits.now.system c.turns.new.self.system c.args.drum.now c.turns.new.drum w) c.in-Ran.is c.in-Ok.ensures.turned) (c.in-Ok.ensures.row c.in-Ran.row (ap Ok c.in-Ran.is)) c.in-Ok-end_quantum.ensures.silent)
     (units_calm g.S.System.means (λ s d fits. ap (λ (t : PlainTree). t.forks) (g.met.S.System.forked s d fits)) g.D.Drum.held c.args.waits.now.system c.args.waits.now.lists c.args.drum.now c.lists_are_sound.ensures.tied c.lists_are_sound.ensures.sound c.in-Ran.row c.turns.new.self.system c.end_quantum.new.self.system c.turns.new.self.lists c.end_quantum.new.self.lists c.turns.new.drum some
     c.lists_are_sound-in-Ok-end_quantum.ensures.tied c.lists_are_sound-in-Ok-end_quantum.ensures.sound (subst (λ (w : Turn). Turned g.S.System.means the_lists g.D.Drum.held c.args.waits.now.auto c.args.waits.now.system c.turns.new.self.system c.args.drum.now c.turns.new.drum w) c.in-Ran.is c.in-Ok.ensures.turned) c.in-Ok-end_quantum.ensures.quiet.told.tree
     (λ frames d fits core room. subst (λ (w : Turn). TookCalmly g.S.System.means frames w c.args.waits.now.system c.turns.new.self.system c.args.waits.now.lists c.turns.new.self.lists) c.in-Ran.is (c.in-Ok.ensures.calm frames d fits core room)) c.end_quantum.ensures.system c.end_quantum.ensures.lists)
@@ -100,6 +103,7 @@ pub returns-in-Ok-give_idle-clause-took : goal.returns-in-Ok-give_idle-clause-to
 returns-in-Ok-give_idle-clause-took g c =
     took_given g.S.System.means g.D.Drum.held g.T.Taker.stands g.T.Taker.cut c.args.waits.now.auto c.args.left c.args.waits.now.system c.turns.new.self.system c.args.waits.now.lists c.turns.new.self.lists c.args.drum.now c.turns.new.drum c.args.out.now c.give_idle.new.out (replicate c.in-Idle.count Idle) (are_turns c.in-Idle.count Idle tt) c.in-Idle.count (subst (λ (w : Turn). 1 ≤ turns_of w) c.in-Idle.is c.in-Ok.ensures.some) (subst (λ (w : Turn). turns_of w ≤ c.args.left) c.in-Idle.is c.in-Ok.ensures.most) (length-replicate c.in-Idle.count Idle) (adds_some g.S.System.means c.in-Idle.count c.args.waits.now.system c.turns.new.self.system (subst (λ (w : Turn). Turned g.S.System.means the_lists g.D.Drum.held c.args.waits.now.auto c.args.waits.now.system c.turns.new.self.system c.args.drum.now c.turns.new.drum w) c.in-Idle.is c.in-Ok.ensures.turned).within)
     (idle_gave g.S.System.means the_lists g.D.Drum.held g.T.Taker.stands g.T.Taker.cut c.args.waits.now.auto c.in-Idle.count c.args.waits.now.system c.turns.new.self.system c.args.drum.now c.turns.new.drum c.args.out.now c.give_idle.new.out (subst (λ (w : Turn). Turned g.S.System.means the_lists g.D.Drum.held c.args.waits.now.auto c.args.waits.now.system c.turns.new.self.system c.args.drum.now c.turns.new.drum w) c.in-Idle.is c.in-Ok.ensures.turned) c.in-Ok-give_idle.ensures.ok)
+    (idle_told g.S.System.means g.D.Drum.held (λ s d fits. ap (λ (t : PlainTree). t.forks) (g.met.S.System.forked s d fits)) c.args.waits.now.system c.args.waits.now.lists c.args.drum.now c.lists_are_sound.ensures.tied c.lists_are_sound.ensures.sound c.in-Idle.count c.turns.new.self.lists (c.in-Ok.ensures.silent c.in-Idle.count (ap Ok c.in-Idle.is)) (c.in-Ok.ensures.idle c.in-Idle.count (ap Ok c.in-Idle.is)).nobody)
     (idle_calm g.S.System.means (λ s d fits. ap (λ (t : PlainTree). t.forks) (g.met.S.System.forked s d fits)) g.D.Drum.held c.args.waits.now.system c.args.waits.now.lists c.args.drum.now c.lists_are_sound.ensures.tied c.lists_are_sound.ensures.sound c.in-Idle.count c.turns.new.self.system c.turns.new.self.lists (subst (λ (w : Turn). 1 ≤ turns_of w) c.in-Idle.is c.in-Ok.ensures.some)
     (λ frames d fits core room. subst (λ (w : Turn). TookCalmly g.S.System.means frames w c.args.waits.now.system c.turns.new.self.system c.args.waits.now.lists c.turns.new.self.lists) c.in-Idle.is (c.in-Ok.ensures.calm frames d fits core room)))
 

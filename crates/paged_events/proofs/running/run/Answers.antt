@@ -1,4 +1,4 @@
-use Rattle.std.proofs.Common.{◌≡◌, ◌+◌, ◌-◌, ◌≤◌, ◌^◌, ℕ, Bool, refl, sym, ◌∙◌, ap, subst, arith}
+use Rattle.std.proofs.Common.{◌≡◌, ◌+◌, ◌-◌, ◌^◌, refl, ◌∙◌, ap, subst, arith}
 use Rattle.script_texts.specs.declared.event.Event.TheVariants.{Run}
 use Rattle.plain_model.specs.Trees.{PlainTree}
 use Rattle.page_waits.specs.Idling.{Counts}

@@ -1,10 +1,13 @@
-use Rattle.std.proofs.Common.{◌≡◌, ◌-◌, ◌∙◌, ℕ, Option, None, Some, refl, sym, ap, subst, arith}
+use Rattle.std.proofs.Common.{◌-◌, ◌∙◌, ℕ, Option, None, Some, refl, sym, ap, subst}
 use Rattle.std.proofs.lemmas.Result.{on_ok_weaker}
 use Rattle.event_deeds.specs.Deeds.{deed, deeds}
 use Rattle.event_deeds.specs.declared.deed.Deed.{Deed}
+use Rattle.plain_model.specs.Trees.{PlainTree}
+use Rattle.paged_events.specs.Turns.{TookDeeds}
 use Rattle.paged_events.specs.Typing.{DidPart, ShowedFirst}
 use Rattle.paged_events.specs.declared.fault.Fault.TheVariants.{Drum, Taker}
 use Rattle.paged_events.proofs.Outside.{other_err, outside_nil, uses_failed, uses_then, uses_well}
+use Rattle.paged_events.proofs.TextLists.{deeds_took}
 use Rattle.paged_events.proofs.Texts.{behind, core_then, cut_part, deeds_none, deeds_so, did_none, did_then, effect_of, first_none, part_cut, part_did, part_so, typed_behind, typed_well}
 use Rattle.paged_events.proofs.typing.+deeds.Goals as goal
 
@@ -61,3 +64,20 @@ returns-in-Err-clause-typed g n c =
 pub returns-in-Err-clause-outside : goal.returns-in-Err-clause-outside
 returns-in-Err-clause-outside g n c =
     uses_failed g.T.Taker.onward g.T.Taker.fault_count g.D.Drum.fault_count g.D.Drum.read_count g.D.Drum.write_count g.D.Drum.size c.in-Err.fault c.args.out.now c.part.new.out c.args.drum.now c.part.new.drum c.in-Err.ensures.outside
+
+pub returns-then-left-eq0-clause-lists : goal.returns-then-left-eq0-clause-lists
+returns-then-left-eq0-clause-lists g n c words st fits =
+    let l = c.args.waits.now.lists.sched in
+    subst (λ (k : ℕ). TookDeeds k (g.S.System.means.plain c.args.waits.now.system words) c.args.deed.now l l) (sym c.if-left-eq0.true) refl
+
+pub returns-in-Some-clause-lists : goal.returns-in-Some-clause-lists
+returns-in-Some-clause-lists g n c =
+    on_ok_weaker c.deeds.result
+    (deeds_took g.S.System.means g.D.Drum.held g.T.Taker.stands g.T.Taker.cut (λ s d fits. ap (λ (t : PlainTree). t.forks) (g.met.S.System.forked s d fits)) c.args.deed.now c.args.left c.if-left-eq0.false (Some c.in-Some.next) c.args.waits.now.system c.part.new.waits.system c.args.waits.now.lists.sched c.part.new.waits.lists.sched c.args.drum.now c.part.new.drum c.args.out.now c.part.new.out
+    (subst (λ (o : Option Deed). DidPart g.S.System.means g.D.Drum.held g.T.Taker.stands g.T.Taker.cut c.args.deed.now o c.args.waits.now.system c.part.new.waits.system c.args.drum.now c.part.new.drum c.args.out.now c.part.new.out) c.in-Some.is c.in-Ok.ensures.did) c.in-Ok.ensures.took c.deeds.new.waits.lists.sched)
+    c.deeds.ensures.lists
+
+pub returns-in-None-clause-lists : goal.returns-in-None-clause-lists
+returns-in-None-clause-lists g n c =
+    deeds_took g.S.System.means g.D.Drum.held g.T.Taker.stands g.T.Taker.cut (λ s d fits. ap (λ (t : PlainTree). t.forks) (g.met.S.System.forked s d fits)) c.args.deed.now c.args.left c.if-left-eq0.false None c.args.waits.now.system c.part.new.waits.system c.args.waits.now.lists.sched c.part.new.waits.lists.sched c.args.drum.now c.part.new.drum c.args.out.now c.part.new.out
+    (subst (λ (o : Option Deed). DidPart g.S.System.means g.D.Drum.held g.T.Taker.stands g.T.Taker.cut c.args.deed.now o c.args.waits.now.system c.part.new.waits.system c.args.drum.now c.part.new.drum c.args.out.now c.part.new.out) c.in-None.is c.in-Ok.ensures.did) c.in-Ok.ensures.took c.part.new.waits.lists.sched (λ words st fits. refl)

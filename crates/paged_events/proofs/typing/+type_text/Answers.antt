@@ -4,8 +4,11 @@ use Rattle.std.proofs.lemmas.Result.{on_ok_weaker}
 use Rattle.machine_names.specs.declared.names.Tty.{Tty}
 use Rattle.plain_model.specs.State.{PlainState}
 use Rattle.plain_model.specs.TypeEvents.{typed_all, typed_at}
+use Rattle.plain_model.specs.Trees.{PlainTree}
+use Rattle.paged_events.specs.Turns.{TookText}
 use Rattle.paged_events.specs.declared.fault.Fault.TheVariants.{Drum, Taker}
 use Rattle.paged_events.proofs.Outside.{other_err, outside_nil, uses_failed, uses_then, uses_well}
+use Rattle.paged_events.proofs.TextLists.{text_took}
 use Rattle.paged_events.proofs.Texts.{core_then, cut_part, did_none, first_part, joined, typed_behind, typed_more, typed_none, typed_well}
 use Rattle.paged_events.proofs.typing.+type_text.Goals as goal
 
@@ -68,3 +71,16 @@ returns-in-Err-clause-typed g n c =
 pub returns-in-Err-clause-outside : goal.returns-in-Err-clause-outside
 returns-in-Err-clause-outside g n c =
     uses_failed g.T.Taker.onward g.T.Taker.fault_count g.D.Drum.fault_count g.D.Drum.read_count g.D.Drum.write_count g.D.Drum.size c.in-Err.fault c.args.out.now c.type_one.new.out c.args.drum.now c.type_one.new.drum c.in-Err.ensures.outside
+
+pub returns-then-left-eq0-clause-lists : goal.returns-then-left-eq0-clause-lists
+returns-then-left-eq0-clause-lists g n c words st fits =
+    let l = c.args.waits.now.lists.sched in
+    let all : length c.args.text.now ≤ (length c.args.text.now - c.args.left) = let none = c.if-left-eq0.true in omega (arith, none) in
+    subst (λ (cs : List ℕ). TookText (g.S.System.means.plain c.args.waits.now.system words) c.args.t cs l l) (sym (drop_all (length c.args.text.now - c.args.left) c.args.text.now all)) refl
+
+pub returns-in-Ok-clause-lists : goal.returns-in-Ok-clause-lists
+returns-in-Ok-clause-lists g n c =
+    on_ok_weaker c.type_text.result
+    (text_took g.S.System.means g.D.Drum.held g.T.Taker.stands g.T.Taker.cut (λ s d fits. ap (λ (t : PlainTree). t.forks) (g.met.S.System.forked s d fits)) c.args.t c.args.text.now c.args.left c.args.waits.now.system c.type_one.new.waits.system c.args.waits.now.lists.sched c.type_one.new.waits.lists.sched c.type_text.new.waits.lists.sched c.args.drum.now c.type_one.new.drum c.args.out.now c.type_one.new.out c.if-left-eq0.false c.requires.left
+    c.in-Ok.ensures.typed.ok c.in-Ok.ensures.lists)
+    c.type_text.ensures.lists

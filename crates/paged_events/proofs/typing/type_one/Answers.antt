@@ -1,4 +1,4 @@
-use Rattle.std.proofs.Common.{◌≡◌, sym, subst}
+use Rattle.std.proofs.Common.{sym, subst}
 use Rattle.fork_tree.specs.Trees.{IsTree}
 use Rattle.event_deeds.specs.Deeds.{deeds}
 use Rattle.event_deeds.specs.declared.deed.Deed.TheVariants.{Typed}

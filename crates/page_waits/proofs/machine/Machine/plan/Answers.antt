@@ -118,6 +118,7 @@ returns-in-Ok-clause-row g c =
       begun = old;
       silent = silent_nil old;
       head = c.requires.heads;
+      within = fewer c.in-Ok.progress.count c.most_units-most.result old c.most_units-most.ensures.row c.in-Ok.ensures.few;
       counted =
           subst (λ (s : Schedule). LastCounted c.args.head.fork c.finish-ended.result s c.finish-ended.new.lists.sched) (c.in-Ok.ensures.moved ∙ ap (λ (t : PlainTree). moved (moves forks t.forks) row) (sym c.finish-ended.ensures.state.told.tree))
           c.finish-ended.ensures.counted;

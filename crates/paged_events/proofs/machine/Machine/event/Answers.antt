@@ -1,5 +1,5 @@
-use Rattle.std.proofs.Common.{◌≡◌, ◌+◌, ◌≤◌, ◌^◌, refl, sym, ◌∙◌, ap, arith}
-use Rattle.std.specs.Prelude.{Ok, Err}
+use Rattle.std.proofs.Common.{◌≡◌, refl, sym, ◌∙◌, ap, arith}
+use Rattle.std.specs.Prelude.{Err}
 use Rattle.paged_events.specs.Faults.{ended_by}
 use Rattle.machine_events.specs.declared.machine.Ended.TheVariants.{DrumFault, TakerFault, Went}
 use Rattle.paged_events.specs.declared.fault.Fault.{Fault}
@@ -26,7 +26,7 @@ pub returns-in-Ok-clause-went : goal.returns-in-Ok-clause-went
 returns-in-Ok-clause-went g c is =
     let acted = c.in-Ok.ensures.acted.ok in
     let given = acted.given in
-    record { steps = given.steps; follows = given.follows; count = omega (arith, given.counts); told = given.told; calm = acted.calm }
+    record { steps = given.steps; follows = given.follows; count = omega (arith, given.counts); told = given.told; turns = acted.turns; calm = acted.calm }
 
 pub returns-in-Ok-clause-within : goal.returns-in-Ok-clause-within
 returns-in-Ok-clause-within g c is k low = c.in-Ok.ensures.acted.ok.given.adds c.args.self.now.done c.requires.within k (omega (arith, low))
