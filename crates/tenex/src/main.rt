@@ -1,8 +1,9 @@
-//! The program: it hands its words, standard input, standard output, the file `tenex.record` and a drum
+//! The program: it hands its words, standard input, standard output and the files `tenex.record` and `tenex.drum`
 //! to the console, or the first three to the assembler, or to what reads a record. To its user the exit status is how that
 //! ended, and standard error says what helps. Stands on tenex_console, asm_console and record_console.
 #![tactic(auto)]
 
+mod drum_file;
 mod messages;
 mod program_text;
 mod recording;
@@ -10,9 +11,10 @@ mod watch;
 
 use asm_console::{AsmStatus, Stopped, asm};
 use asm_core::AsmFault;
-use command_words::RecordCommand;
+use command_words::{RecordCommand, asked_run};
+use drum_file::{DRUM, make_drum};
 use messages::{explain, explain_error, explain_line, explain_stopped, usage};
-use outside::{MOST_DRUM_PAGES, Source, StdSink, StdSource, SureDrum};
+use outside::{FileDrum, Source, StdSink, StdSource};
 use program_text::Kept;
 use record_console::record_command;
 use recording::{RECORD, make_record};
@@ -28,7 +30,7 @@ use watch::{BadLine, TextKind, Watched};
 /// What stands in for a standard stream that is closed: a folder, of which nothing is read and to which nothing is written.
 const NO_STREAM: &str = "/";
 
-/// The exit status where the file of the record can't be made.
+/// The exit status where the file of the record or of the drum can't be made.
 const CANNOT_OPEN: u8 = 9;
 
 /// The words of the command after the program's name.
@@ -54,7 +56,7 @@ fn refused<R: Print>(rt: &R, line: &str, status: u8) -> u8 {
     }
 }
 
-/// There is no memory, before the run or for its drum and its streams.
+/// There is no memory, before the run or for its streams.
 fn no_memory(rt: &HostRuntime) -> u8 {
     explain(rt, Status::Memory, TextKind::Script);
     refused(rt, "?MEMORY", Status::Memory.number())
@@ -66,12 +68,9 @@ fn wrong_words(rt: &HostRuntime) -> u8 {
     refused(rt, "?USAGE", Status::Usage.number())
 }
 
-/// Runs the script on standard input, or a generated one, with these words and this file for the record.
-fn run(rt: &HostRuntime, words: &[String], record: File) -> u8 {
+/// Runs the script on standard input, or a generated one, with these words, and these files for the record and the drum.
+fn run(rt: &HostRuntime, words: &[String], record: File, drum: File) -> u8 {
     let alloc = rt.alloc();
-    let Ok(mut drum) = SureDrum::new(alloc, MOST_DRUM_PAGES) else {
-        return no_memory(rt);
-    };
     let Ok(printer) = BufWriter::new(alloc, rt.stdout()) else {
         return no_memory(rt);
     };
@@ -81,6 +80,7 @@ fn run(rt: &HostRuntime, words: &[String], record: File) -> u8 {
     let mut script = Watched::new(StdSource::new(rt.stdin()));
     let mut out = StdSink::new(printer);
     let mut rec = StdSink::new(record);
+    let mut drum = FileDrum::new(drum);
     let status = tenex(alloc, words, &mut script, &mut out, &mut rec, &mut drum);
     if status == Status::Script {
         explain_bad(rt, &script);
@@ -89,6 +89,9 @@ fn run(rt: &HostRuntime, words: &[String], record: File) -> u8 {
     explain_error(rt, "standard input", script.source().error());
     explain_error(rt, "standard output", out.error());
     explain_error(rt, RECORD, rec.error());
+    if status == Status::DrumFault {
+        explain_error(rt, DRUM, drum.error());
+    }
     status.number()
 }
 
@@ -155,17 +158,29 @@ fn ask_of_record(words: &[String]) -> bool {
     }
 }
 
-/// The file of the record can't be made.
-fn cannot_open(rt: &HostRuntime, error: &io::Error) -> u8 {
-    explain_error(rt, RECORD, Some(error));
+/// A file of a run can't be made.
+fn cannot_open(rt: &HostRuntime, file: &str, error: &io::Error) -> u8 {
+    explain_error(rt, file, Some(error));
     refused(rt, "?CANNOT OPEN", CANNOT_OPEN)
+}
+
+/// Makes the file of the drum anew where the words ask for a run, and runs. Wrong words leave the drum as it is.
+fn run_asked(rt: &HostRuntime, words: &[String], record: File) -> u8 {
+    match asked_run(rt.alloc(), words) {
+        Ok(Some(_)) => match make_drum(rt) {
+            Ok(drum) => run(rt, words, record, drum),
+            Err(error) => cannot_open(rt, DRUM, &error),
+        },
+        Ok(None) => wrong_words(rt),
+        Err(_) => no_memory(rt),
+    }
 }
 
 /// Makes the file of the record anew, and runs.
 fn run_recorded(rt: &HostRuntime, words: &[String]) -> u8 {
     match make_record(rt) {
-        Ok(record) => run(rt, words, record.file),
-        Err(error) => cannot_open(rt, &error),
+        Ok(record) => run_asked(rt, words, record.file),
+        Err(error) => cannot_open(rt, RECORD, &error),
     }
 }
 
@@ -173,7 +188,7 @@ fn run_recorded(rt: &HostRuntime, words: &[String]) -> u8 {
 fn refuse_no_text(rt: &HostRuntime) -> u8 {
     match make_record(rt) {
         Ok(_) => wrong_words(rt),
-        Err(error) => cannot_open(rt, &error),
+        Err(error) => cannot_open(rt, RECORD, &error),
     }
 }
 

@@ -14,7 +14,7 @@ usage: tenex run [--frames N] [--drum N] < SCRIPT
        tenex replay [--drum N] < RECORD
        tenex image [--drum N] < RECORD
   run: runs the console script on standard input; the transcript goes to standard output, and the record to the
-  file tenex.record in the current folder, which is made anew
+  file tenex.record in the current folder; the drum is the file tenex.drum there; both are made anew
   big: runs the script that is generated from the seed, a number of 1 to 9 digits, in the same way, and prints
   behind the transcript how many events, units, idle entries and characters there were
   --frames N   page frames of core, 160 to 8192; 256 if not given

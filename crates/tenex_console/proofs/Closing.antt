@@ -1,27 +1,25 @@
 -- What the sinks took of a run.
-use Rattle.std.proofs.Common.{◌≡◌, inl, inr, ℕ, ◌-◌, ◌<◌, ◌^◌, List, [], ◌∷◌, ◌++◌, length, replicate, Bool, true, Option, None, Some, refl, sym, ◌∙◌, ap, subst, arith}
-use Rattle.std.proofs.lemmas.List.{append-nil, get_or-replicate, length-replicate}
-use Rattle.outside.specs.Drums.{IsPage}
+use Rattle.std.proofs.Common.{◌≡◌, inl, inr, is_some, ℕ, ◌-◌, ◌<◌, ◌≤◌, ◌^◌, List, [], ◌∷◌, ◌++◌, length, replicate, All, true, false, Option, None, Some, refl, sym, ◌∙◌, ap, subst, arith}
+use Rattle.std.proofs.lemmas.List.{append-nil, length-replicate}
+use Rattle.outside.specs.Drums.{AreDrumPages}
 use Rattle.outside.specs.Told.{Grows, Stays}
 use Rattle.script_texts.specs.declared.event.Event.{Event}
 use Rattle.script_texts.specs.declared.event.Item.{Item}
 use Rattle.script_texts.specs.declared.event.Step.{Step}
-use Rattle.plain_model.specs.State.{PlainState, opening}
-use Rattle.plain_model.specs.Run.{AreLegal}
-use Rattle.plain_model.proofs.Runs.{AreLegal-append, legal_flat}
 use Rattle.page_contracts.specs.DrumWords.{DrumWords}
-use Rattle.machine_names.specs.PageWords.{zero_words}
 use Rattle.page_contracts.specs.Stores.{FitsHomes, free}
+use Rattle.page_waits.specs.Systems.{SystemMeaning}
+use Rattle.paged_events.specs.declared.machine.Machine.{Machine}
+use Rattle.plain_model.specs.Run.{state_after}
+use Rattle.plain_model.specs.State.{opening}
+use Rattle.script_lang.specs.Generator.{big_events}
 use Rattle.script_texts.specs.Taker.{GoesOn}
 use Rattle.script_texts.specs.Script.{IsScript}
 use Rattle.script_texts.specs.Texts.{transcript, entries_text, record_text}
-use Rattle.flat_pages.proofs.StoredPlaces.{zeros_fit}
 use Rattle.command_words.specs.declared.request.EventSource.{EventSource}
 use Rattle.command_words.specs.declared.request.EventSource.TheVariants.{Script as ReadScript, Generated}
 use Rattle.command_words.specs.declared.request.Request.{Request}
 use Rattle.texts.specs.Tally.{no_tally, tally}
-use Rattle.machine_events.specs.declared.machine.Machine.{Machine}
-use Rattle.machine_events.specs.Machines.{Fits, limit, plain}
 use Rattle.texts.specs.declared.writer.Writer.{Writer}
 use Rattle.texts.specs.declared.last.Last.{Last}
 use Rattle.texts.specs.declared.last.Last.TheVariants.{Summary, Stopped}
@@ -34,13 +32,15 @@ use Rattle.texts.proofs.Starts.{stands_start}
 use Rattle.tenex_console.specs.declared.asked.Unbegun.{Unbegun}
 use Rattle.tenex_console.specs.declared.driver.Driven.{Driven}
 use Rattle.tenex_console.specs.declared.driver.Driven.TheVariants.{Done as WholeScript, Bad, Long, ReadFault as Unread, DrumFault as Unpaged, TakerFault}
-use Rattle.tenex_console.specs.Runs.{AreBroken, AreEntries, RunsTo, ShowsTo}
+use Rattle.tenex_console.specs.Machines.{frames, limit}
+use Rattle.tenex_console.specs.Runs.{AreEntries, RunsTo}
 use Rattle.tenex_console.specs.Driving.{Handed, IsBooted, OpensOver, RanTo}
-use Rattle.tenex_console.specs.Headline.{DrivenTo, Fronts, Headline, IsRunOf, Part, Stops, closing, generated_transcript, last_after, last_done, status_of}
+use Rattle.tenex_console.specs.OverFrames.{ArePlaced, IsOverFrames, RunsOverFrames}
+use Rattle.tenex_console.specs.Headline.{DrivenTo, Fronts, IsRunOf, Part, Stops, closing, generated_transcript, last_after, last_done, status_of}
 use Rattle.tenex_console.specs.Verdicts.{AreRun}
 use Rattle.tenex_console.specs.Observed.{Observed, seen}
 use Rattle.tenex_console.specs.Statuses.{Ran, status_after}
-use Rattle.tenex_console.proofs.Spelled.{all_spelled}
+use Rattle.tenex_console.proofs.Spelled.{IsSpelled, all_spelled}
 
 -- what grew by bytes and no more grew by these bytes
 grows_alone : (old new : Option (List ℕ)) (bytes : List ℕ) → Grows old new (bytes ++ []) → Grows old new bytes
@@ -82,23 +82,32 @@ module _ {T R : Type 0} (out_taken : T → Option (List ℕ)) (rec_taken : R →
       let ends = fails.each w [] [] start in
       inr (refl, ends.out, stays_partly (rec_taken w.rec.now) (rec_taken u.rec.now) ends.rec)
 
--- a drum of so many pages of zeros
-abbrev zero_drum : ℕ → DrumWords
-zero_drum n = replicate n zero_words
+-- what is told, where something is
+told_words : {A : Type 0} (held : Option A) → is_some held ≡ true → (d : A) × (held ≡ Some d)
+told_words None some = absurd (cc some)
+told_words (Some d) some = (d, refl)
 
-drum_fits : (n : ℕ) → FitsHomes (replicate n free) (zero_drum n)
-drum_fits n = record {
-  enough = omega (arith, length-replicate n free, length-replicate n zero_words);
-  pages = λ home l. subst IsPage (sym (get_or-replicate n home zero_words [] (omega (arith, l, length-replicate n zero_words)))) zeros_fit;
+-- what a drum of enough pages tells fits homes that are free
+drum_fits : (room size : ℕ) (d : DrumWords) → AreDrumPages size d → room ≤ size → FitsHomes (replicate room free) d
+drum_fits room size d are enough = record {
+  enough = omega (arith, length-replicate room free, are.number, enough);
+  pages = λ home l. are.pages home (omega (arith, l, are.number));
 }
 
--- over pages in memory a booted machine opens whatever the drum tells
-pub opens_booted : {P : Type 0} {b : _} {D : Type 0} (held : D → Option DrumWords) (m : Machine P b) (drum : D) → IsBooted (limit m) m → b.means.flat ≡ true → OpensOver b.means.flat Fits plain held (limit m) m drum (zero_drum (limit m))
-opens_booted held m drum booted is_flat = record { stood = inr is_flat; opened = booted.opened (zero_drum (limit m)) (drum_fits (limit m)) }
+-- a booted machine opens over what its drum tells
+pub opens_booted : {S : Type 0} {b : _} {D : Type 0} (held : D → Option DrumWords) (m : Machine S b) (drum : D) (size : ℕ) → IsBooted (frames m) (limit m) m → limit m ≤ size
+    → ((d : DrumWords) → held drum ≡ Some d → AreDrumPages size d) → is_some (held drum) ≡ true → (d : DrumWords) × OpensOver b.means held m.waits.system drum d
+opens_booted held m drum size booted enough pages some =
+    let d = told_words (held drum) some in
+    (d.0, record { stood = inl d.1; opened = booted.opened d.0 (drum_fits (limit m) size d.0 (pages d.0 d.1) enough) })
 
 -- the last lines are those of the counts that the drum told
 pub last_told : (driven : Driven) (events : EventSource) {a b c d a' b' c' d' : ℕ} {last this : Option Last} → a ≡ a' → b ≡ b' → c ≡ c' → d ≡ d' → last ≡ last_after driven events (a - b) (c - d) → last ≡ this → last_after driven events (a' - b') (c' - d') ≡ this
 last_told driven events p q r s is that = sym (λ i. last_after driven events (p i - q i) (r i - s i)) ∙ (sym is ∙ that)
+
+-- a count that the drum told has risen by no more
+pub few_told : {a b a' b' most : ℕ} → a ≡ a' → b ≡ b' → a - b < most → a' - b' < most
+few_told p q few = omega (arith, p, q, few)
 
 -- where there are last lines, the taker was given all
 handed_whole : {K : Type 0} (stands cut : K → K → List Item → List Step → Type 0) (out out' : K) (items : List Item) (entries : List Step) (driven : Driven) (events : EventSource) (reads writes : ℕ) (last : Last) → last_after driven events reads writes ≡ Some last
@@ -110,63 +119,32 @@ handed_whole stands cut out out' items entries Unread events reads writes last i
 handed_whole stands cut out out' items entries Unpaged events reads writes last is handed = handed
 handed_whole stands cut out out' items entries TakerFault events reads writes last is handed = absurd (cc is)
 
--- over pages in memory all entries of a run are legal, whatever the AUTO mark
-module _ {limit : ℕ} {events : List Event} {entries : List Step} where
-  broken_legal : {Part : Event → List Step → Type 0} → AreBroken true limit Part events entries → AreLegal true (opening limit) entries
-  broken_legal b =
-      subst (AreLegal true (opening limit)) (sym b.breaks.entries_are)
-      (AreLegal-append true (opening limit) b.breaks.before b.breaks.more (legal_flat true (opening limit) b.breaks.whole b.breaks.before b.breaks.follows b.legal) b.last_legal)
-
-  whole_legal : {items : List Item} → AreEntries true limit events entries items → AreLegal true (opening limit) entries
-  whole_legal r = legal_flat true (opening limit) events entries r.follows r.legal
-
-module _ (limit : ℕ) (events : List Event) (entries : List Step) (items : List Item) where
-  run_legal : (driven : Driven) → RunsTo true limit driven events entries items → AreLegal true (opening limit) entries
-  run_legal WholeScript r = whole_legal r
-  run_legal (Bad n) r = whole_legal r
-  run_legal Long r = whole_legal r
-  run_legal Unread r = whole_legal r
-  run_legal Unpaged r = broken_legal r.broken
-  run_legal TakerFault (inl r) = whole_legal r
-  run_legal TakerFault (inr r) = broken_legal r.broken
-
-  -- and this is what they show
-  run_shows : (driven : Driven) → RunsTo true limit driven events entries items → ShowsTo driven limit events entries items
-  run_shows WholeScript r = r.shown
-  run_shows (Bad n) r = r.shown
-  run_shows Long r = r.shown
-  run_shows Unread r = r.shown
-  run_shows Unpaged r = (r.broken.breaks.whole, r.broken.breaks.last, r.later, r.broken.breaks.events_are, r.first, r.shown)
-  run_shows TakerFault (inl r) = r.shown
-  run_shows TakerFault (inr r) = r.shown
-
 -- A run that began from the opening state, seen through the writer: as it was new, after the driving, and at the end.
-module _ {M S T R D : Type 0} {flat : Bool} {fits : M → DrumWords → Type 0} {plain : M → DrumWords → PlainState} {held : D → Option DrumWords} {limit : ℕ} {m : M} {d : D} {words : DrumWords}
+module _ {M S T R D : Type 0} {means : SystemMeaning M} {held : D → Option DrumWords} {m : M} {d : D} {words : DrumWords}
     (left : S → Option (List ℕ)) (out_taken : T → Option (List ℕ)) (rec_taken : R → Option (List ℕ)) (reads writes : D → ℕ) (s s' : S) (d' : D) (w v u : Writer T R)
-    (opens : OpensOver flat fits plain held limit m d words) (is_flat : flat ≡ true) (line : w.line ≡ None) (run : w.run ≡ None) (fresh : w.tally ≡ no_tally) (request : Request) (same : request.sizes.drum ≡ limit) where
+    (opens : OpensOver means held m d words) (framed : means.store.flat ≡ false) (line : w.line ≡ None) (run : w.run ≡ None) (fresh : w.tally ≡ no_tally) (request : Request)
+    (core : request.sizes.frames ≡ means.store.frames m) (room : request.sizes.drum ≡ means.limit m) where
   abbrev told : Observed
-  told = seen left out_taken rec_taken reads writes s s' w.out.now u.out.now w.rec.now u.rec.now d d'
+  told = seen left out_taken rec_taken held reads writes s s' w.out.now u.out.now w.rec.now u.rec.now d d'
 
   abbrev Drove : Driven → Type 0
-  Drove driven = RanTo flat fits plain held limit m d (Stands out_taken rec_taken) (IsCutWithin out_taken rec_taken) driven w v (AreRun request.events (left s) (left s') driven)
+  Drove driven = RanTo means held m d d' (Stands out_taken rec_taken) (IsCutWithin out_taken rec_taken) driven w v (AreRun request.events (left s) (left s') driven)
 
-  runs_flat : (driven : Driven) (ran : Drove driven) → RunsTo true request.sizes.drum driven ran.events ran.entries (ran.told words opens).items
-  runs_flat driven ran =
+  runs : (driven : Driven) (ran : Drove driven) → RunsTo false request.sizes.frames request.sizes.drum driven ran.events ran.entries (ran.told words opens).items
+  runs driven ran =
       let given = ran.told words opens in
-      subst (λ f. RunsTo f request.sizes.drum driven ran.events ran.entries given.items) is_flat (subst (λ n. RunsTo flat n driven ran.events ran.entries given.items) (sym same) given.run)
+      subst (λ f. RunsTo f request.sizes.frames request.sizes.drum driven ran.events ran.entries given.items) framed
+      (subst (λ n. RunsTo means.store.flat request.sizes.frames n driven ran.events ran.entries given.items) (sym room)
+      (subst (λ n. RunsTo means.store.flat n (means.limit m) driven ran.events ran.entries given.items) (sym core) given.run))
 
   driven_to : (driven : Driven) → Drove driven → DrivenTo driven request told
-  driven_to driven ran =
-      let given = ran.told words opens in
-      record {
-        events = ran.events;
-        entries = ran.entries;
-        items = given.items;
-        found = ran.found;
-        follows = ran.follows;
-        legal = run_legal request.sizes.drum ran.events ran.entries given.items driven (runs_flat driven ran);
-        shown = run_shows request.sizes.drum ran.events ran.entries given.items driven (runs_flat driven ran);
-      }
+  driven_to driven ran = record {
+    events = ran.events;
+    entries = ran.entries;
+    items = (ran.told words opens).items;
+    found = ran.found;
+    run = runs driven ran;
+  }
 
   -- the writer stood for what it was given
   stood : (driven : Driven) (last : Last) → last_after driven request.events told.reads told.writes ≡ Some last → (ran : Drove driven) → Stands out_taken rec_taken w v (ran.told words opens).items ran.entries
@@ -200,39 +178,58 @@ module _ {M S T R D : Type 0} {flat : Bool} {fits : M → DrumWords → Type 0} 
     ends : IsFinished out_taken rec_taken (last_done request.events told.reads told.writes) v.tally w u shown ran.entries
     ends = finishes.each w shown ran.entries (stood WholeScript (last_done request.events told.reads told.writes) refl ran)
 
-    -- the machine ran the events, where the transcript is this text of what it showed
-    run_of : (text : List Item → List Step → List ℕ) → Grows told.before.out told.after.out (text shown ran.entries) → IsRunOf ran.events text request.sizes.drum told
-    run_of text grows =
-        let entries = runs_flat WholeScript ran in
+    -- the entries are of these events
+    abbrev entries_are : (events : List Event) → ran.events ≡ events → AreEntries false request.sizes.frames request.sizes.drum events ran.entries shown
+    entries_are events same = subst (λ es. AreEntries false request.sizes.frames request.sizes.drum es ran.entries shown) same (runs WholeScript ran)
+
+    -- the machine ran these events, where the transcript is this text of what it showed
+    run_of : (events : List Event) (text : List Item → List Step → List ℕ) → ran.events ≡ events → Grows told.before.out told.after.out (text shown ran.entries) → IsRunOf events text request.sizes told
+    run_of events text same grows =
+        let entries = entries_are events same in
         record {
           entries = ran.entries;
           follows = entries.follows;
-          legal = whole_legal entries;
-          fair = entries.fair;
+          legal = entries.legal;
           transcript_is = subst (λ items. Grows told.before.out told.after.out (text items ran.entries)) entries.shown grows;
           record_is = whole_record request.events ran.entries ends.rec;
-          spelled = all_spelled ran.events ran.fit;
+          spelled = subst (All IsSpelled) same (all_spelled ran.events ran.fit);
           few = (omega (arith, ran.few), few_reads, few_writes);
         }
 
-    headline : (events : EventSource) → request.events ≡ events → Headline events request.sizes.drum told
-    headline ReadScript is = record {
-      events = ran.events;
-      all = λ bytes left_are.
-          let found = (subst (λ e. AreRun e told.before.script told.after.script WholeScript ran.events) is ran.found).each bytes left_are in
-          let all : found.0 ≡ bytes = sym (found.2 ∙ (ap (λ rest. found.0 ++ rest) found.4.1 ∙ append-nil found.0)) in
-          (subst (λ b. IsScript b ran.events) all found.4.0, found.3 ∙ ap Some found.4.1);
-      run = run_of (λ items entries. transcript items) (grows_alone told.before.out told.after.out (transcript shown) (subst (λ e. Grows told.before.out told.after.out (transcript shown ++ end_line (last_done e told.reads told.writes) v.tally)) is ends.out));
-    }
+    -- the pages that the machine's last state has on the drum
+    left_pages : ArePlaced request.sizes.frames (state_after (opening request.sizes.drum) ran.entries) told.after.drum
+    left_pages =
+        subst (λ n. ArePlaced request.sizes.frames (state_after (opening n) ran.entries) told.after.drum) (sym room)
+        (subst (λ n. ArePlaced n (state_after (opening (means.limit m)) ran.entries) told.after.drum) (sym core) (ran.placed refl framed words opens))
+
+    -- over how many frames it ran them
+    over_frames : (events : List Event) (same : ran.events ≡ events) → IsOverFrames request.sizes events ran.entries (entries_are events same).follows told.after.drum
+    over_frames events same = let entries = entries_are events same in record { turns = entries.turns; calm = entries.calm; placed = left_pages }
+
+    headline : (events : EventSource) → request.events ≡ events → RunsOverFrames events request.sizes told
+    unfolding run_of
+    headline ReadScript is = (
+      record {
+        events = ran.events;
+        all = λ bytes left_are.
+            let found = (subst (λ e. AreRun e told.before.script told.after.script WholeScript ran.events) is ran.found).each bytes left_are in
+            let all : found.0 ≡ bytes = sym (found.2 ∙ (ap (λ rest. found.0 ++ rest) found.4.1 ∙ append-nil found.0)) in
+            (subst (λ b. IsScript b ran.events) all found.4.0, found.3 ∙ ap Some found.4.1);
+        run = run_of ran.events (λ items entries. transcript items) refl (grows_alone told.before.out told.after.out (transcript shown) (subst (λ e. Grows told.before.out told.after.out (transcript shown ++ end_line (last_done e told.reads told.writes) v.tally)) is ends.out));
+      },
+      over_frames ran.events refl,
+    )
     headline (Generated seed) is =
         let found = subst (λ e. AreRun e told.before.script told.after.script WholeScript ran.events) is ran.found in
         let line = subst (λ e. Grows told.before.out told.after.out (transcript shown ++ end_line (last_done e told.reads told.writes) v.tally)) is ends.out in
-        let counts : v.tally ≡ tally shown ran.entries = counted WholeScript (last_done request.events told.reads told.writes) refl ran in
-        record {
-          unread = found.1;
-          run = subst (λ es. IsRunOf es generated_transcript request.sizes.drum told) found.0
-              (run_of generated_transcript (subst (λ t. Grows told.before.out told.after.out (transcript shown ++ end_line (Summary told.reads told.writes) t)) counts line));
-        }
+        let counts : v.tally ≡ tally shown ran.entries = counted WholeScript (last_done request.events told.reads told.writes) refl ran in (
+          record {
+            unread = found.1;
+            run = run_of (big_events seed) generated_transcript found.0
+                (subst (λ t. Grows told.before.out told.after.out (transcript shown ++ end_line (Summary told.reads told.writes) t)) counts line);
+          },
+          over_frames (big_events seed) found.0,
+        )
 
   -- both texts were closed with their last lines
   ended : (driven : Driven) (last : Last) → last_after driven request.events told.reads told.writes ≡ Some last → told.reads < 2 ^ 64 → told.writes < 2 ^ 64 → Drove driven → Finishes out_taken rec_taken last v u → Ran request told (status_after driven)

@@ -1,4 +1,5 @@
 mod Asking
+mod Booting
 mod Turns
 mod Found
 mod Lined

@@ -1,5 +1,5 @@
 -- Events that lines spell are within their limits, and so are their entries: a record of these is that of no others.
-use Rattle.std.proofs.Common.{◌≡◌, ℕ, List, [], ◌∷◌, All, true}
+use Rattle.std.proofs.Common.{ℕ, List, [], ◌∷◌, All, false}
 use Rattle.std.proofs.lemmas.List.Elements.{All-cons, All-head, All-nil, All-tail}
 use Rattle.script_texts.specs.declared.event.Event.{Event}
 use Rattle.script_texts.specs.declared.event.Item.{Item}
@@ -10,9 +10,8 @@ use Rattle.script_texts.specs.Script.{Spells}
 use Rattle.script_texts.specs.Texts.{line_of}
 use Rattle.script_lang.proofs.CanonicalSpells.{spells}
 use Rattle.script_lang.proofs.Spellings.{spelled_fits}
-use Rattle.plain_model.specs.State.{opening}
-use Rattle.plain_model.proofs.Runs.{legal_apart}
 use Rattle.plain_laws.proofs.Named.{opened_fit}
+use Rattle.command_words.specs.declared.sizes.Sizes.{Sizes}
 use Rattle.tenex_console.specs.Headline.{IsRunOf}
 use Rattle.tenex_console.specs.Observed.{Observed}
 
@@ -29,10 +28,10 @@ all_fit (e ∷ es) spelled =
     let one = All-head IsSpelled e es spelled in All-cons FitsEvent e es (spelled_fits one.0 e one.1) (all_fit es (All-tail IsSpelled e es spelled))
 
 -- what the record of a run can tell
-pub record_fits : (events : List Event) (text : List Item → List Step → List ℕ) (limit : ℕ) (told : Observed) (run : IsRunOf events text limit told)
+pub record_fits : (events : List Event) (text : List Item → List Step → List ℕ) (sizes : Sizes) (told : Observed) (run : IsRunOf events text sizes told)
     → FitsRecord run.entries told.reads told.writes
-record_fits events text limit told run = record {
-  fit = opened_fit true limit events run.entries (all_fit events run.spelled) run.follows (legal_apart true (opening limit) events run.entries run.follows run.legal);
+record_fits events text sizes told run = record {
+  fit = opened_fit false sizes.drum events run.entries (all_fit events run.spelled) run.follows run.legal;
   few = run.few.0;
   few_reads = run.few.1;
   few_writes = run.few.2;

@@ -1,7 +1,9 @@
 -- What a status tells, and where it comes from.
 use Rattle.std.proofs.Common.{◌≡◌, ◌⊎◌, inl, inr, ℕ, List, ◌++◌, Option, Some, refl, sym, ◌∙◌, ap, subst, arith, String}
+use Rattle.std.specs.Prelude.{IsSome}
 use Rattle.std.proofs.lemmas.List.{append-nil}
 use Rattle.outside.specs.Faults.{Rose}
+use Rattle.page_contracts.specs.DrumWords.{DrumWords}
 use Rattle.script_texts.specs.declared.event.Event.{Event}
 use Rattle.script_texts.specs.Script.{IsScript, IsTooLong, StopsAt}
 use Rattle.script_lang.proofs.OnePlace.{script_not_bad, script_not_long, bad_not_too_long}
@@ -15,10 +17,10 @@ use Rattle.tenex_console.specs.declared.asked.Unbegun.TheVariants.{Usage as Wron
 use Rattle.tenex_console.specs.declared.driver.Driven.{Driven}
 use Rattle.tenex_console.specs.declared.driver.Driven.TheVariants.{Done as WholeScript, Bad, Long, ReadFault as Unread, DrumFault as Unpaged, TakerFault}
 use Rattle.tenex_console.specs.Command.{Generates, IsReady, IsRight, IsUsage, ReadsScript}
-use Rattle.tenex_console.specs.Verdicts.{AreRun, Found, Verdict}
+use Rattle.tenex_console.specs.Verdicts.{AreGenerated, AreRun, Found, Verdict}
 use Rattle.tenex_console.specs.Headline.{IsTrueOf, Stops}
 use Rattle.tenex_console.specs.Observed.{AreSteady, Faults, IsCaused, IsSteady, Observed}
-use Rattle.tenex_console.specs.Statuses.{IsEarly, IsFaultless, Judges, Ran, RanAsked, Tells, status_after}
+use Rattle.tenex_console.specs.Statuses.{IsEarly, IsFaultless, IsOfRun, Judges, Ran, RanAsked, RanWith, Tells, status_after}
 use Rattle.tenex_console.proofs.Asking.{not_usage}
 
 -- what the driving found is what the status tells
@@ -106,17 +108,17 @@ module _ {Z : Type 0} (words : List (String Z)) (pages : ℕ) where
 
   module _ (told : Observed) where
     -- a run that began
-    pub tells_ran : (status : Status) → RanAsked words pages told status → Tells words pages told status
-    tells_ran Done ran = ran
-    tells_ran Usage ran = absurd ran.2
-    tells_ran Script ran = ran
-    tells_ran DrumFault ran = ran
-    tells_ran Memory ran = absurd ran.2
-    tells_ran ReadFault ran = ran
-    tells_ran WriteFault ran = inr ran
-    tells_ran LongScript ran = ran
-    tells_ran Illegal ran = ran
-    tells_ran Image ran = ran
+    pub tells_ran : (status : Status) → IsOfRun status → RanAsked words pages told status → Tells words pages told status
+    tells_ran Done began ran = ran
+    tells_ran Usage began ran = absurd began
+    tells_ran Script began ran = ran
+    tells_ran DrumFault began ran = ran
+    tells_ran Memory began ran = absurd began
+    tells_ran ReadFault began ran = ran
+    tells_ran WriteFault began ran = inr ran
+    tells_ran LongScript began ran = ran
+    tells_ran Illegal began ran = began
+    tells_ran Image began ran = began
 
     -- no status but those of a fault tells of one
     pub faultless_but : (status : Status) → Tells words pages told status → (status ≡ DrumFault → ⊥) → (status ≡ ReadFault → ⊥) → IsFaultless status ⊎ (status ≡ WriteFault)
@@ -128,8 +130,8 @@ module _ {Z : Type 0} (words : List (String Z)) (pages : ℕ) where
     faultless_but ReadFault tells drum read = absurd (read refl)
     faultless_but WriteFault tells drum read = inr refl
     faultless_but LongScript tells drum read = inl tt
-    faultless_but Illegal tells drum read = absurd tells.2
-    faultless_but Image tells drum read = absurd tells.2
+    faultless_but Illegal tells drum read = absurd tells
+    faultless_but Image tells drum read = absurd tells
 
     -- where no count rose, no fault is told
     pub faultless : (status : Status) (f : Faults) → Tells words pages told status → IsCaused status f → AreSteady f → IsFaultless status
@@ -145,29 +147,48 @@ module _ {Z : Type 0} (words : List (String Z)) (pages : ℕ) where
         written (inl x) = steady f.out f.out_after all.out x
         written (inr y) = steady f.rec f.rec_after all.rec y
 
+-- the status of a run whose texts were closed
+pub closed_began : (driven : Driven) → IsOfRun (status_after driven)
+closed_began WholeScript = tt
+closed_began (Bad n) = tt
+closed_began Long = tt
+closed_began Unread = tt
+closed_began Unpaged = tt
+closed_began TakerFault = tt
+
 -- a run that began is not early
-pub late : (request : Request) (told : Observed) (status : Status) → Ran request told status → IsEarly status → ⊥
-late request told Usage ran early = ran
-late request told Memory ran early = ran
-late request told Done ran early = early
-late request told Script ran early = early
-late request told DrumFault ran early = early
-late request told ReadFault ran early = early
-late request told WriteFault ran early = early
-late request told LongScript ran early = early
-late request told Illegal ran early = early
-late request told Image ran early = early
+pub late : (status : Status) → IsOfRun status → IsEarly status → ⊥
+late Usage began early = began
+late Memory began early = began
+late Done began early = early
+late Script began early = early
+late DrumFault began early = early
+late ReadFault began early = early
+late WriteFault began early = early
+late LongScript began early = early
+late Illegal began early = early
+late Image began early = early
 
 -- what a run came to is told of the run that was asked for
-pub ran_asked : (told : Observed) (request : Request) (events : EventSource) (status : Status) → events ≡ request.events → Ran (record { events = events; sizes = request.sizes }) told status → Ran request told status
-ran_asked told request events status is ran = subst (λ e. Ran (record { events = e; sizes = request.sizes }) told status) is ran
+pub ran_asked : (told : Observed) (request : Request) (events : EventSource) (frames pages : ℕ) (status : Status) → events ≡ request.events → request.sizes.frames ≡ frames → request.sizes.drum ≡ pages
+    → RanWith events frames pages told status → IsSome told.before.drum → Ran request told status
+ran_asked told request events frames pages status is core room ran paged = subst (λ e. Ran (record { events = e; sizes = request.sizes }) told status) is (ran request.sizes core room paged)
 
 -- a generated script is never bad, and never too long
-pub never_judged : (request : Request) (told : Observed) (status : Status) → Ran request told status → (seed : ℕ) → request.events ≡ Generated seed → (status ≡ Script → ⊥) × (status ≡ LongScript → ⊥)
-never_judged request told status ran seed is = (
-  λ e. let bad = subst (Ran request told) e ran in (subst (λ source. AreRun source told.before.script told.after.script (Bad bad.0) bad.1.so_far.events) is bad.1.so_far.found).0,
-  λ e. let long = subst (Ran request told) e ran in (subst (λ source. AreRun source told.before.script told.after.script Long long.so_far.events) is long.so_far.found).0,
-)
+pub never_judged : (script script' : Option (List ℕ)) (seed : ℕ) (driven : Driven) (events : List Event) → AreRun (Generated seed) script script' driven events → (status : Status) → status ≡ status_after driven
+    → (status ≡ Script → ⊥) × (status ≡ LongScript → ⊥)
+never_judged script script' seed driven events found status is = (λ bad. never driven found.0 (inl (sym is ∙ bad)), λ long. never driven found.0 (inr (sym is ∙ long)))
+  where
+    never : (d : Driven) → AreGenerated seed d events → (status_after d ≡ Script) ⊎ (status_after d ≡ LongScript) → ⊥
+    never WholeScript f (inl x) = absurd (cc x)
+    never WholeScript f (inr x) = absurd (cc x)
+    never (Bad n) f x = f
+    never Long f x = f
+    never Unread f x = f
+    never Unpaged f (inl x) = absurd (cc x)
+    never Unpaged f (inr x) = absurd (cc x)
+    never TakerFault f (inl x) = absurd (cc x)
+    never TakerFault f (inr x) = absurd (cc x)
 
 module _ {out out' rec rec' : Option (List ℕ)} where
   -- which statuses there are where nothing was run
@@ -182,11 +203,11 @@ module _ {out out' rec rec' : Option (List ℕ)} where
     usage_true NoMemory status (inl this) right is = absurd (cc (this.0, is))
     usage_true NoMemory status (inr this) right is = absurd (cc (this.0, is))
 
-    pub tells_stopped : (script : Option (List ℕ)) (reads writes : ℕ) (why : Unbegun) (status : Status) → Stops why out out' rec rec' status → IsTrueOf words pages why
-        → Tells words pages (record { before = record { script = script; out = out; rec = rec }; after = record { script = script; out = out'; rec = rec' }; reads = reads; writes = writes }) status
-    tells_stopped script reads writes why status (inr this) right =
+    pub tells_stopped : (script : Option (List ℕ)) (drum : Option DrumWords) (reads writes : ℕ) (why : Unbegun) (status : Status) → Stops why out out' rec rec' status → IsTrueOf words pages why
+        → Tells words pages (record { before = record { script = script; out = out; rec = rec; drum = drum }; after = record { script = script; out = out'; rec = rec'; drum = drum }; reads = reads; writes = writes }) status
+    tells_stopped script drum reads writes why status (inr this) right =
         subst (Tells words pages _) (sym this.0) (inl (record { why = why; is_true = right; unread = λ xs h. h; transcript_front = this.1; record_stays = this.2 }))
-    tells_stopped script reads writes WrongWords status (inl this) right =
+    tells_stopped script drum reads writes WrongWords status (inl this) right =
         subst (Tells words pages _) (sym this.0) (record { unread = λ xs h. h; transcript_is = this.1; record_stays = this.2 })
-    tells_stopped script reads writes NoMemory status (inl this) right =
+    tells_stopped script drum reads writes NoMemory status (inl this) right =
         subst (Tells words pages _) (sym this.0) (record { unread = λ xs h. h; transcript_is = this.1; record_stays = this.2 })

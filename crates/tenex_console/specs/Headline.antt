@@ -1,20 +1,20 @@
 -- What a run reads and writes, on each way in which it ends.
-use Rattle.std.specs.Prelude.{◌≡◌, ◌⊎◌, ℕ, List, [], ◌++◌, true, Option, None, Some, String, map, string_bytes, All, length, ◌<◌, ◌^◌}
+use Rattle.std.specs.Prelude.{◌≡◌, ◌⊎◌, ℕ, List, [], ◌++◌, true, false, Option, None, Some, IsSome, String, map, string_bytes, All, length, ◌<◌, ◌^◌}
 use Rattle.outside.specs.Told.{Grows, Stays}
 use Rattle.script_texts.specs.declared.event.Event.{Event}
 use Rattle.script_texts.specs.declared.event.Item.{Item}
 use Rattle.script_texts.specs.declared.event.Step.{Step}
 use Rattle.plain_model.specs.State.{opening}
 use Rattle.script_texts.specs.Follows.{Follows}
-use Rattle.plain_model.specs.Passing.{AreFair}
-use Rattle.plain_model.specs.Run.{AreLegal, items_of}
+use Rattle.plain_model.specs.Run.{IsLegal, items_of}
 use Rattle.script_texts.specs.Script.{IsScript, Spells}
 use Rattle.script_texts.specs.Texts.{transcript, entries_text, record_text}
 use Rattle.script_lang.specs.Generator.{big_events}
 use Rattle.command_words.specs.declared.request.EventSource.{EventSource}
 use Rattle.command_words.specs.declared.request.EventSource.TheVariants.{Script as ReadScript, Generated}
 use Rattle.command_words.specs.declared.request.Request.{Request}
-use Rattle.command_words.specs.Words.{Ask, AskOf}
+use Rattle.command_words.specs.declared.sizes.Sizes.{Sizes}
+use Rattle.command_words.specs.Words.{AskOf}
 use Rattle.texts.specs.declared.last.Status.{Status}
 use Rattle.texts.specs.declared.last.Status.TheVariants.{Usage, Script, DrumFault, Memory, ReadFault, WriteFault, LongScript}
 use Rattle.texts.specs.declared.last.Last.{Last}
@@ -29,61 +29,66 @@ use Rattle.tenex_console.specs.declared.asked.Unbegun.TheVariants.{Usage as Wron
 use Rattle.tenex_console.specs.Command.{IsUsage}
 use Rattle.tenex_console.specs.Verdicts.{AreRun}
 use Rattle.tenex_console.specs.Observed.{Observed}
-use Rattle.tenex_console.specs.Runs.{FollowsTo, ShowsTo}
+use Rattle.tenex_console.specs.Runs.{RunsTo}
 
 -- THE MACHINE'S RUN: the entries that the record has are those of the events, in order, each RUN n being n units of forks that can
--- run, or idle entries while none can; a fork that can run is not passed over for long within a RUN; and the transcript is a text of
--- what the plain machine shows over the entries. The record's last line tells how often the drum was read and written. The events are
--- such as lines spell, and there are fewer entries, reads and writes than 2^64: so no other entries within their limits have this record
--- (`a_record_is_of_one_run`).
-pub record IsRunOf (events : List Event) (text : List Item → List Step → List ℕ) (limit : ℕ) (told : Observed) : Type 0 where
+-- run, or idle entries, which under AUTO ON stand only where none can; and the transcript is a text of what the plain machine shows over
+-- the entries. The record's last line tells how often the drum was read and written. The events are such as lines spell, and there are
+-- fewer entries, reads and writes than 2^64: so no other entries within their limits have this record (`a_record_is_of_one_run`).
+pub record IsRunOf (events : List Event) (text : List Item → List Step → List ℕ) (sizes : Sizes) (told : Observed) : Type 0 where
   pub entries : List Step
   pub follows : Follows events entries
-  pub legal : AreLegal true (opening limit) entries
-  pub fair : AreFair (opening limit) events entries follows
-  pub transcript_is : Grows told.before.out told.after.out (text (items_of (opening limit) entries) entries)
+  pub legal : IsLegal false true (opening sizes.drum) events entries follows
+  pub transcript_is : Grows told.before.out told.after.out (text (items_of (opening sizes.drum) entries) entries)
   pub record_is : Grows told.before.rec told.after.rec (record_text entries told.reads told.writes)
   pub spelled : All (λ e. (line : List ℕ) × Spells line e) events
   pub few : (length entries < 2 ^ 64) × (told.reads < 2 ^ 64) × (told.writes < 2 ^ 64)
 
 -- THE HEADLINE OF run: the events are those of the script, which is read to its end
-pub record RunsScript (limit : ℕ) (told : Observed) : Type 0 where
+pub record RunsScript (sizes : Sizes) (told : Observed) : Type 0 where
   pub events : List Event
   pub all : (bytes : List ℕ) → told.before.script ≡ Some bytes → IsScript bytes events × (told.after.script ≡ Some [])
-  pub run : IsRunOf events (λ items entries. transcript items) limit told
+  pub run : IsRunOf events (λ items entries. transcript items) sizes told
 
 -- the transcript of a generated script: behind that of a script stands the line of its counts
 abbrev pub generated_transcript : List Item → List Step → List ℕ
 generated_transcript items entries = transcript items ++ tally_line (tally items entries)
 
 -- THE HEADLINE OF big: the events are those of the generated script, and no byte of the other is read
-pub record RunsGenerated (seed limit : ℕ) (told : Observed) : Type 0 where
+pub record RunsGenerated (seed : ℕ) (sizes : Sizes) (told : Observed) : Type 0 where
   pub unread : told.after.script ≡ told.before.script
-  pub run : IsRunOf (big_events seed) generated_transcript limit told
+  pub run : IsRunOf (big_events seed) generated_transcript sizes told
 
 -- the headline, by whose events are asked for
-abbrev pub Headline : EventSource → ℕ → Observed → Type 0
-Headline ReadScript limit told = RunsScript limit told
-Headline (Generated seed) limit told = RunsGenerated seed limit told
+abbrev pub Headline : EventSource → Sizes → Observed → Type 0
+Headline ReadScript sizes told = RunsScript sizes told
+Headline (Generated seed) sizes told = RunsGenerated seed sizes told
 
 -- the entries of the record
-abbrev pub entries_of : (events : EventSource) (limit : ℕ) (told : Observed) → Headline events limit told → List Step
-entries_of ReadScript limit told headline = headline.run.entries
-entries_of (Generated seed) limit told headline = headline.run.entries
+abbrev pub entries_of : (events : EventSource) (sizes : Sizes) (told : Observed) → Headline events sizes told → List Step
+entries_of ReadScript sizes told headline = headline.run.entries
+entries_of (Generated seed) sizes told headline = headline.run.entries
 
--- the words ask for a run, of which the headline holds
+-- the events, which they follow
+abbrev pub events_of : (events : EventSource) (sizes : Sizes) (told : Observed) → Headline events sizes told → List Event
+events_of ReadScript sizes told headline = headline.events
+events_of (Generated seed) sizes told headline = big_events seed
+
+abbrev pub follows_of : (events : EventSource) (sizes : Sizes) (told : Observed) (headline : Headline events sizes told) → Follows (events_of events sizes told headline) (entries_of events sizes told headline)
+follows_of ReadScript sizes told headline = headline.run.follows
+follows_of (Generated seed) sizes told headline = headline.run.follows
+
+-- the words ask for a run, of which the headline holds, where the drum tells its pages
 abbrev pub HasHeadline : {Z : Type 0} → List (String Z) → Observed → Type 0
-HasHeadline words told = (request : Request) × AskOf (map string_bytes words) request × Headline request.events request.sizes.drum told
+HasHeadline words told = (request : Request) × AskOf (map string_bytes words) request × (IsSome told.before.drum → Headline request.events request.sizes told)
 
--- The events were driven so far over all pages in memory: these events, their legal entries, and what was shown.
+-- The events were driven so far: these events, their legal entries, and what was shown.
 pub record DrivenTo (driven : Driven) (request : Request) (told : Observed) : Type 0 where
   pub events : List Event
   pub entries : List Step
   pub items : List Item
   pub found : AreRun request.events told.before.script told.after.script driven events
-  pub follows : FollowsTo driven events entries
-  pub legal : AreLegal true (opening request.sizes.drum) entries
-  pub shown : ShowsTo driven request.sizes.drum events entries items
+  pub run : RunsTo false request.sizes.frames request.sizes.drum driven events entries items
 
 -- the texts of the run so far, and the line that tells how it stopped behind the transcript
 pub record Part (driven : Driven) (line : List ℕ) (request : Request) (told : Observed) : Type 0 where

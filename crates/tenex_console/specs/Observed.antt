@@ -1,19 +1,21 @@
 -- What is told of the outside before and after a run.
 use Rattle.std.specs.Prelude.{◌≡◌, ◌⊎◌, ℕ, ◌-◌, ◌<◌, ◌≤◌, List, Option}
 use Rattle.outside.specs.Faults.{Rose}
+use Rattle.page_contracts.specs.DrumWords.{DrumWords}
 use Rattle.texts.specs.declared.last.Status.{Status}
 use Rattle.texts.specs.declared.last.Status.TheVariants.{DrumFault, ReadFault, WriteFault}
 
--- the bytes that are left of the script and those that both sinks have taken, where they are told
-pub record Texts : Type 0 where
+-- the bytes that are left of the script, those that both sinks have taken, and the words of the drum's pages, each where they are told
+pub record Contents : Type 0 where
   pub script : Option (List ℕ)
   pub out : Option (List ℕ)
   pub rec : Option (List ℕ)
+  pub drum : Option DrumWords
 
--- the texts before and after, and how often the drum was read and written in between
+-- the contents before and after, and how often the drum was read and written in between
 pub record Observed : Type 0 where
-  pub before : Texts
-  pub after : Texts
+  pub before : Contents
+  pub after : Contents
   pub reads : ℕ
   pub writes : ℕ
 
@@ -28,15 +30,16 @@ pub record Faults : Type 0 where
   pub drum : ℕ
   pub drum_after : ℕ
 
-module _ {S T R D : Type 0} (left : S → Option (List ℕ)) (out_taken : T → Option (List ℕ)) (rec_taken : R → Option (List ℕ)) (reads writes : D → ℕ) where
-  -- what a source and two sinks tell
-  abbrev pub texts : S → T → R → Texts
-  texts script out rec = record { script = left script; out = out_taken out; rec = rec_taken rec }
+module _ {S T R D : Type 0} (left : S → Option (List ℕ)) (out_taken : T → Option (List ℕ)) (rec_taken : R → Option (List ℕ)) (held : D → Option DrumWords)
+    (reads writes : D → ℕ) where
+  -- what a source, two sinks and a drum tell
+  abbrev pub contents : S → T → R → D → Contents
+  contents script out rec drum = record { script = left script; out = out_taken out; rec = rec_taken rec; drum = held drum }
 
-  -- what a source, two sinks and a drum tell before and after
+  -- what they tell before and after
   abbrev pub seen : (script script' : S) → (out out' : T) → (rec rec' : R) → (drum drum' : D) → Observed
   seen script script' out out' rec rec' drum drum' =
-      record { before = texts script out rec; after = texts script' out' rec'; reads = reads drum' - reads drum; writes = writes drum' - writes drum }
+      record { before = contents script out rec drum; after = contents script' out' rec' drum'; reads = reads drum' - reads drum; writes = writes drum' - writes drum }
 
 module _ {S T R D : Type 0} where
   -- the counts of faults of a source, two sinks and a drum before and after

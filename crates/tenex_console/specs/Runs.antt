@@ -4,10 +4,13 @@ use Rattle.std.specs.Prelude.{◌≡◌, ◌⊎◌, ℕ, List, [], ◌∷◌, �
 use Rattle.script_texts.specs.declared.event.Event.{Event}
 use Rattle.script_texts.specs.declared.event.Item.{Item}
 use Rattle.script_texts.specs.declared.event.Step.{Step}
-use Rattle.plain_model.specs.State.{opening}
+use Rattle.plain_model.specs.State.{PlainState, opening}
 use Rattle.script_texts.specs.Follows.{Follows, Begins, Unfinished, auto_behind}
-use Rattle.plain_model.specs.Passing.{AreFair}
 use Rattle.plain_model.specs.Run.{ShownFirst, IsLegal, AreLegal, state_after, items_of}
+use Rattle.job_sched.specs.Schedules.{Schedule, empty}
+use Rattle.page_contracts.specs.Stores.{members_of}
+use Rattle.page_waits.specs.Calm.{AreCalmlyFair}
+use Rattle.paged_events.specs.Turns.{TakesTurnsOver}
 use Rattle.tenex_console.specs.declared.driver.Driven.{Driven}
 use Rattle.tenex_console.specs.declared.driver.Driven.TheVariants.{DrumFault, TakerFault}
 
@@ -28,19 +31,18 @@ FollowsTo DrumFault events entries = BreaksOff Unfinished events entries
 FollowsTo TakerFault events entries = Follows events entries ⊎ BreaksOff Begins events entries
 FollowsTo driven events entries = Follows events entries
 
--- What is shown over these entries where the driving ended like this: their items, and where the drum broke off the last
--- event, the first items of what that shows.
-abbrev pub ShowsTo : Driven → ℕ → List Event → List Step → List Item → Type 0
-ShowsTo DrumFault limit events entries items =
-    (whole : List Event) × (last : Event) × (later : List Item) × (events ≡ whole ++ last ∷ []) × ShownFirst (state_after (opening limit) entries) last later
-    × (items ≡ items_of (opening limit) entries ++ later)
-ShowsTo driven limit events entries items = items ≡ items_of (opening limit) entries
+-- entries take their turns, from the lists of a machine of so many frames that has done nothing
+pub record AreTaken (frames : ℕ) (s : PlainState) (entries : List Step) : Type 0 where
+  pub behind : Schedule
+  pub turns : TakesTurnsOver (empty (members_of frames)) s entries behind
 
--- legal entries of these events with room for so many pages and forks, which pass no fork over for long, and their items
-pub record AreEntries (flat : Bool) (limit : ℕ) (events : List Event) (entries : List Step) (items : List Item) : Type 0 where
+-- legal entries of these events with so many frames and room for so many pages and forks, which pass no fork over for long
+-- while they are calm, and take their turns; and their items
+pub record AreEntries (flat : Bool) (frames limit : ℕ) (events : List Event) (entries : List Step) (items : List Item) : Type 0 where
   pub follows : Follows events entries
   pub legal : IsLegal flat true (opening limit) events entries follows
-  pub fair : AreFair (opening limit) events entries follows
+  pub calm : AreCalmlyFair frames (opening limit) events entries follows
+  pub turns : AreTaken frames (opening limit) entries
   pub shown : items ≡ items_of (opening limit) entries
 
 -- legal entries of these events, the last of which was broken off
@@ -63,7 +65,7 @@ pub record AreUnfinished (flat : Bool) (limit : ℕ) (events : List Event) (entr
   pub shown : items ≡ items_of (opening limit) entries ++ later
 
 -- legal entries of these events, and their items, where the driving ended like this
-abbrev pub RunsTo : Bool → ℕ → Driven → List Event → List Step → List Item → Type 0
-RunsTo flat limit DrumFault events entries items = AreUnfinished flat limit events entries items
-RunsTo flat limit TakerFault events entries items = AreEntries flat limit events entries items ⊎ AreBegun flat limit events entries items
-RunsTo flat limit driven events entries items = AreEntries flat limit events entries items
+abbrev pub RunsTo : Bool → (frames limit : ℕ) → Driven → List Event → List Step → List Item → Type 0
+RunsTo flat frames limit DrumFault events entries items = AreUnfinished flat limit events entries items
+RunsTo flat frames limit TakerFault events entries items = AreEntries flat frames limit events entries items ⊎ AreBegun flat limit events entries items
+RunsTo flat frames limit driven events entries items = AreEntries flat frames limit events entries items

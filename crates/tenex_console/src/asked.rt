@@ -1,26 +1,23 @@
 // The machine that the words of the command ask for.
-ghost use Rattle.std.specs.Prelude.{◌≡◌, ◌+◌, ◌*◌, ◌<◌, ◌≤◌, IfOk, IfErr};
+ghost use Rattle.std.specs.Prelude.{◌≡◌, ◌≤◌, IfOk, IfErr};
 ghost use Rattle.page_homes.specs.declared.homes.TheConstants.{MOST_HOMES};
 ghost use Rattle.command_words.specs.declared.request.Request.{Request as ARequest};
+ghost use Rattle.command_words.specs.declared.sizes.TheConstants.{LEAST_FRAMES, MOST_FRAMES};
+ghost use Rattle.tenex_console.specs.Booting.{AreNewPages};
 ghost use Rattle.tenex_console.specs.Command.{IsAsked};
 ghost use Rattle.tenex_console.specs.Driving.{IsBooted};
 ghost use Rattle.tenex_console.specs.Headline.{IsTrueOf, status_of};
 
 use command_words::{EventSource, Sizes, asked_run};
-use flat_pages::{FlatSlots, FlatStore};
-use machine_events::{Config, Machine};
+use known_slots::KnownSlots;
 use outside::Memory;
+use page_contracts::Pages;
+use paged_events::Machine;
+use paged_store::PagedStore;
+use paged_system::{Paged, boot as boot_waits};
+use slot_paged::SlotPaged;
 use std::alloc::Global;
 use texts::Status;
-
-/// How many frames are kept from the forks of the balance set.
-const KEPT_FRAMES: u32 = 32;
-
-/// How many frames there are for each fork of the balance set.
-const MEMBER_FRAMES: u32 = 128;
-
-/// How many forks the balance set has at most.
-const MOST_MEMBERS: u32 = 63;
 
 /// Why a run did not begin.
 #[derive(Clone, Copy, PartialEq, Eq)]
@@ -54,14 +51,17 @@ impl From<Memory> for Unbegun {
     }
 }
 
+/// A machine on frames and a drum.
+pub type FramedMachine = Machine<Paged<KnownSlots<PagedStore>>>;
+
 /// Which events the words ask for, and a machine of the sizes that they ask for, where a drum of so many pages has
 /// enough of them; or why there is none. Nothing is booted before the words and the drum are looked at.
 pub fn asked_machine(
     alloc: Global,
     words: &[String],
     drum_pages: u32,
-) -> Result<(EventSource, Machine<FlatSlots<FlatStore>>), Unbegun>
-    ensures booted { IfOk result (λ p. (request : ARequest) × IsAsked words.now drum_pages request × (p.0 ≡ request.events) × IsBooted request.sizes.drum p.1) }
+) -> Result<(EventSource, FramedMachine), Unbegun>
+    ensures booted { IfOk result (λ p. (request : ARequest) × IsAsked words.now drum_pages request × (p.0 ≡ request.events) × IsBooted request.sizes.frames request.sizes.drum p.1) }
     ensures why { IfErr result (IsTrueOf words.now drum_pages) }
 {
     let Some(request) = asked_run(alloc, words)? else {
@@ -74,16 +74,25 @@ pub fn asked_machine(
     Ok((request.events, machine))
 }
 
-// A new machine of these sizes over pages in memory.
-fn boot(alloc: Global, sizes: Sizes) -> Result<Machine<FlatSlots<FlatStore>>, Memory>
-    requires least_frames { KEPT_FRAMES + MEMBER_FRAMES ≤ sizes.frames }
-    requires most_frames { sizes.frames < KEPT_FRAMES + (MOST_MEMBERS + 1) * MEMBER_FRAMES }
-    requires least_pages { 1 ≤ sizes.drum }
-    requires most_pages { sizes.drum ≤ MOST_HOMES }
-    ensures { IfOk result (IsBooted sizes.drum) }
+// New pages in frames and on a drum of these sizes: no fork and no page.
+fn boot_pages(alloc: Global, sizes: Sizes) -> Result<KnownSlots<PagedStore>, Memory>
+    requires { sizes.drum ≤ MOST_HOMES }
+    ensures { IfOk result (AreNewPages ⟦<KnownSlots<PagedStore> as Pages>⟧.means sizes.frames sizes.drum) }
 {
-    let store = FlatStore::boot(alloc, sizes.drum)?;
-    let pages = FlatSlots::boot(alloc, store, sizes.drum)?;
-    let set = (sizes.frames - KEPT_FRAMES) / MEMBER_FRAMES;
-    Machine::boot(alloc, Config { set }, pages)
+    let store = PagedStore::boot(alloc, sizes.frames, sizes.drum)?;
+    let slots = SlotPaged::boot(alloc, store, sizes.drum)?;
+    KnownSlots::over(alloc, slots)
+}
+
+// A new machine of these sizes, on frames and a drum. Its balance set has as many members as the frames have room for.
+fn boot(alloc: Global, sizes: Sizes) -> Result<FramedMachine, Memory>
+    requires least_frames { LEAST_FRAMES ≤ sizes.frames }
+    requires most_frames { sizes.frames ≤ MOST_FRAMES }
+    requires most_pages { sizes.drum ≤ MOST_HOMES }
+    ensures { IfOk result (IsBooted sizes.frames sizes.drum) }
+{
+    let pages = boot_pages(alloc, sizes)?;
+    let set = pages.members();
+    let waits = boot_waits(alloc, set, pages)?;
+    Ok(Machine::new(waits))
 }

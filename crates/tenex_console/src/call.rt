@@ -1,25 +1,26 @@
 // The top call.
-ghost use Rattle.std.specs.Prelude.{◌≡◌, ◌⊎◌, ◌≤◌, ℕ, List, Some, OnOk, OnErr};
+ghost use Rattle.std.specs.Prelude.{◌≡◌, ◌⊎◌, ◌≤◌, ℕ, List, Some, OnOk, OnErr, false};
 ghost use Rattle.outside.specs.Faults.{Rose};
 ghost use Rattle.script_texts.specs.Script.{IsTooLong, StopsAt};
 ghost use Rattle.script_texts.specs.Taker.{StaysOnward};
 ghost use Rattle.script_texts.specs.declared.event.Event.{Event as AnEvent};
-ghost use Rattle.machine_events.specs.Machines.{limit};
 ghost use Rattle.machine_events.specs.Outcome.{DrumStays};
 ghost use Rattle.texts.specs.Writer.{FailsAtEnd, Finishes, HandsOn, IsHandedOn, IsOnward};
 ghost use Rattle.tenex_console.specs.Command.{Generates, IsRight, IsUsage, ReadsScript};
 ghost use Rattle.tenex_console.specs.Driving.{IsBooted};
 ghost use Rattle.tenex_console.specs.Headline.{HasHeadline, Stops};
 ghost use Rattle.tenex_console.specs.Isolation.{HasIsolation};
+ghost use Rattle.tenex_console.specs.Machines.{frames, limit};
 ghost use Rattle.tenex_console.specs.Observed.{AreSteady, HandedOn, IsCaused, NoneFell, faults, seen};
-ghost use Rattle.tenex_console.specs.Statuses.{IsEarly, IsFaultless, IsUsageOrBefore, Judges, RanWith, Tells};
+ghost use Rattle.tenex_console.specs.OverFrames.{HasFrames};
+ghost use Rattle.tenex_console.specs.Statuses.{IsEarly, IsFaultless, IsOfRun, IsUsageOrBefore, Judges, RanWith, Tells};
 
 use crate::asked::{Unbegun, asked_machine};
 use crate::driver::drive;
 use command_words::EventSource;
-use flat_pages::{FlatSlots, FlatStore};
-use machine_events::Machine;
 use outside::{Drum, Failed, Sink, Source};
+use page_waits::System;
+use paged_events::Machine;
 use std::alloc::Global;
 use texts::{Last, Status, Writer};
 
@@ -41,25 +42,31 @@ pub fn tenex<S: Source, T: Sink, R: Sink, D: Drum>(
     rec: &mut R,
     drum: &mut D,
 ) -> Status
-    // The transcript is that of the plain machine over the entries that the record has, and the events are those
-    // that are asked for.
-    ensures headline { result ≡ Status.Done → HasHeadline words.now (seen S.left T.taken R.taken D.read_count D.write_count script.old script.new out.old out.new rec.old rec.new drum.old drum.new) }
+    // Where the drum tells its pages, the transcript is that of the plain machine over the entries that the record
+    // has, and the events are those that are asked for.
+    ensures headline { result ≡ Status.Done → HasHeadline words.now (seen S.left T.taken R.taken D.held D.read_count D.write_count script.old script.new out.old out.new rec.old rec.new drum.old drum.new) }
+
+    // And over the frames that are asked for the entries take their turns, calm ones pass nobody over for long, and all pages of the last plain
+    // state but as many as there are frames stand on the drum.
+    ensures framed { result ≡ Status.Done → HasFrames words.now (seen S.left T.taken R.taken D.held D.read_count D.write_count script.old script.new out.old out.new rec.old rec.new drum.old drum.new) }
 
     // And a terminal that is apart in that run sees its own work alone.
-    ensures alone { result ≡ Status.Done → HasIsolation words.now (seen S.left T.taken R.taken D.read_count D.write_count script.old script.new out.old out.new rec.old rec.new drum.old drum.new) }
+    ensures alone { result ≡ Status.Done → HasIsolation words.now (seen S.left T.taken R.taken D.held D.read_count D.write_count script.old script.new out.old out.new rec.old rec.new drum.old drum.new) }
 
-    // On each status: what was read of the script, and what both sinks took.
-    ensures tells { Tells words.now (D.size drum.old) (seen S.left T.taken R.taken D.read_count D.write_count script.old script.new out.old out.new rec.old rec.new drum.old drum.new) result }
+    // On each status: what was read of the script, and what both sinks took; of a run that began, where the drum
+    // tells its pages.
+    ensures tells { Tells words.now (D.size drum.old) (seen S.left T.taken R.taken D.held D.read_count D.write_count script.old script.new out.old out.new rec.old rec.new drum.old drum.new) result }
 
     // Where the script is run, a status that judges it is true of it, and a bad or too long one is never passed over.
     ensures judged { (bytes : List ℕ) → ReadsScript words.now → S.left script.old ≡ Some bytes → Judges result bytes }
     ensures script { (bytes : List ℕ) (n : ℕ) (es : List AnEvent) → ReadsScript words.now → S.left script.old ≡ Some bytes → StopsAt n bytes es → (result ≡ Status.Done → ⊥) × (result ≡ Status.LongScript → ⊥) }
     ensures long { (bytes : List ℕ) (es : List AnEvent) → ReadsScript words.now → S.left script.old ≡ Some bytes → IsTooLong bytes es → (result ≡ Status.Done → ⊥) × (result ≡ Status.Script → ⊥) }
 
-    // Usage comes exactly where the words or the drum are wrong; and without a run of it the script is not touched.
+    // Usage comes exactly where the words or the drum are wrong; and without a run neither the script nor the drum is touched.
     ensures usage { result ≡ Status.Usage → IsUsage words.now (D.size drum.old) }
     ensures always_usage { IsUsage words.now (D.size drum.old) → IsUsageOrBefore result }
     ensures unread { IsEarly result → script.new ≡ script.old }
+    ensures untouched { IsEarly result → drum.new ≡ drum.old }
     ensures not_asked { (seed : ℕ) → Generates words.now seed → script.new ≡ script.old }
 
     // A fault comes only where a count rose.
@@ -78,9 +85,8 @@ pub fn tenex<S: Source, T: Sink, R: Sink, D: Drum>(
     // there was no memory.
     ensures complete_run { IsRight words.now (D.size drum.old) (S.left script.old) → IsFaultless result → (result ≡ Status.Done) ⊎ (result ≡ Status.Memory) }
 
-    // The drum's size stays, and no count of it falls; all pages are in memory, and it is not asked.
+    // The drum's size stays, and no count of it falls.
     ensures drum { DrumStays D.fault_count D.read_count D.write_count D.size drum.old drum.new }
-    ensures untouched { drum.new ≡ drum.old }
 
     // Neither sink keeps back anything, unless it failed.
     ensures handed { HandedOn T.handed_on R.handed_on T.fault_count R.fault_count out.old out.new rec.old rec.new result }
@@ -107,22 +113,24 @@ fn stop<T: Sink, R: Sink>(why: Unbegun, out: &mut T, rec: &mut R) -> Status
 }
 
 // Runs the events on a new machine.
-fn run<S: Source, T: Sink, R: Sink, D: Drum>(
-    machine: &mut Machine<FlatSlots<FlatStore>>,
+fn run<M: System, S: Source, T: Sink, R: Sink, D: Drum>(
+    machine: &mut Machine<M>,
     events: EventSource,
     script: &mut S,
     out: &mut T,
     rec: &mut R,
     drum: &mut D,
 ) -> Status
-    requires booted { IsBooted (limit machine.old) machine.old }
+    requires framed { M.means.store.flat ≡ false }
+    requires booted { IsBooted (frames machine.old) (limit machine.old) machine.old }
     requires size { limit machine.old ≤ D.size drum.old }
-    ensures ran { RanWith events (limit machine.old) (seen S.left T.taken R.taken D.read_count D.write_count script.old script.new out.old out.new rec.old rec.new drum.old drum.new) result }
+    ensures began { IsOfRun result }
+    ensures ran { RanWith events (frames machine.old) (limit machine.old) (seen S.left T.taken R.taken D.held D.read_count D.write_count script.old script.new out.old out.new rec.old rec.new drum.old drum.new) result }
     ensures judged { (bytes : List ℕ) → events ≡ EventSource.Script → S.left script.old ≡ Some bytes → Judges result bytes }
+    ensures generated { (seed : ℕ) → events ≡ EventSource.Generated seed → (result ≡ Status.Script → ⊥) × (result ≡ Status.LongScript → ⊥) }
     ensures unread { (seed : ℕ) → events ≡ EventSource.Generated seed → script.new ≡ script.old }
     ensures caused { IsCaused result (faults S.fault_count T.fault_count R.fault_count D.fault_count script.old script.new out.old out.new rec.old rec.new drum.old drum.new) }
     ensures drum { DrumStays D.fault_count D.read_count D.write_count D.size drum.old drum.new }
-    ensures untouched { drum.new ≡ drum.old }
     ensures handed { HandedOn T.handed_on R.handed_on T.fault_count R.fault_count out.old out.new rec.old rec.new result }
 {
     let reads = drum.reads();

@@ -1,20 +1,20 @@
 // The events that are asked for, driven through a machine.
-ghost use Rattle.std.specs.Prelude.{◌≡◌, ◌≢◌, ◌≤◌, ℕ, true};
+ghost use Rattle.std.specs.Prelude.{◌≡◌, ◌≢◌, ◌<◌, ◌≤◌, ◌^◌, ℕ};
 ghost use Rattle.outside.specs.Faults.{Rose};
 ghost use Rattle.script_texts.specs.Taker.{StaysOnward};
-ghost use Rattle.machine_events.specs.Machines.{limit};
 ghost use Rattle.machine_events.specs.Outcome.{DrumStays};
 ghost use Rattle.tenex_console.specs.Driving.{Drove, IsNew};
 ghost use Rattle.tenex_console.specs.Headline.{last_after, last_done};
+ghost use Rattle.tenex_console.specs.Machines.{limit};
 ghost use Rattle.tenex_console.specs.Statuses.{status_after};
 ghost use Rattle.tenex_console.specs.Verdicts.{AreRun};
 
 use crate::generated::drive_generated;
 use crate::lines::drive_lines;
 use command_words::EventSource;
-use machine_events::Machine;
 use outside::{Drum, Source};
-use page_contracts::Pages;
+use page_waits::System;
+use paged_events::Machine;
 use script_texts::Taker;
 use texts::{Last, Status};
 
@@ -39,7 +39,8 @@ impl Driven {
     /// The last lines of the texts, after so many reads and writes of the drum: a generated script has a line of
     /// counts besides. None, where a text couldn't be written.
     pub fn last(self, events: EventSource, reads: u64, writes: u64) -> Option<Last>
-        ensures { result ≡ last_after self events reads writes }
+        ensures last { result ≡ last_after self events reads writes }
+        ensures few { (reads < 2 ^ 64) × (writes < 2 ^ 64) }
     {
         match self {
             Driven::Done => Some(last_done(events, reads, writes)),
@@ -78,8 +79,8 @@ fn last_done(events: EventSource, reads: u64, writes: u64) -> Last
 
 /// Runs the events that are asked for, from a new machine on, and gives their steps to a taker: the lines of
 /// the script as they are read, or those of a generated script, and then the source stays as it is.
-pub fn drive<P: Pages, S: Source, D: Drum, K: Taker>(
-    machine: &mut Machine<P>,
+pub fn drive<M: System, S: Source, D: Drum, K: Taker>(
+    machine: &mut Machine<M>,
     events: EventSource,
     script: &mut S,
     drum: &mut D,
@@ -97,14 +98,11 @@ pub fn drive<P: Pages, S: Source, D: Drum, K: Taker>(
     ensures drum { DrumStays D.fault_count D.read_count D.write_count D.size drum.old drum.new }
     ensures drum_cause { result ≡ Driven.DrumFault → Rose (D.fault_count drum.old) (D.fault_count drum.new) }
 
-    // Over pages in memory alone the drum is not asked.
-    ensures untouched { P.means.flat ≡ true → drum.new ≡ drum.old }
-
     // Before a read of the source that failed the taker had handed on all that it was given.
     ensures handed { result ≡ Driven.ReadFault → K.handed_on taker.new }
 
     // What the taker was given, and which events they were.
-    ensures drove { Drove D.held K.stands K.cut machine.old drum.old (AreRun events (S.left script.old) (S.left script.new) result) taker.old taker.new result }
+    ensures drove { Drove D.held K.stands K.cut machine.old drum.old drum.new (AreRun events (S.left script.old) (S.left script.new) result) taker.old taker.new result }
 {
     match events {
         EventSource::Script => drive_lines(machine, script, drum, taker),

@@ -22,7 +22,6 @@ pub fn run_faultless(
     ensures usage { result ≡ Status.Usage → IsUsage words.now (⟦<SureDrum as Drum>⟧.size drum.old) }
     ensures always_usage { IsUsage words.now (⟦<SureDrum as Drum>⟧.size drum.old) → (result ≡ Status.Usage) ⊎ (result ≡ Status.Memory) }
     ensures complete { IsRight words.now (⟦<SureDrum as Drum>⟧.size drum.old) (Some script.items) → (result ≡ Status.Done) ⊎ (result ≡ Status.Memory) }
-    ensures untouched { drum.new ≡ drum.old }
 {
     let mut script = SureSource::new(script);
     let mut out = SureSink::new();

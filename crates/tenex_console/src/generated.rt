@@ -1,22 +1,23 @@
 // The generated script, driven through a machine.
-ghost use Rattle.std.specs.Prelude.{◌≡◌, ◌≢◌, ◌≤◌, true};
+ghost use Rattle.std.specs.Prelude.{◌≡◌, ◌≢◌, ◌≤◌};
 ghost use Rattle.outside.specs.Faults.{Rose};
 ghost use Rattle.script_texts.specs.Taker.{StaysOnward};
-ghost use Rattle.machine_events.specs.Machines.{limit};
 ghost use Rattle.machine_events.specs.Outcome.{DrumStays};
 ghost use Rattle.tenex_console.specs.Driving.{Drove, IsNew};
+ghost use Rattle.tenex_console.specs.Machines.{limit};
 ghost use Rattle.tenex_console.specs.Verdicts.{AreGenerated};
 
 use crate::driver::Driven;
-use machine_events::{Ended, Machine};
+use machine_events::Ended;
 use outside::Drum;
-use page_contracts::Pages;
+use page_waits::System;
+use paged_events::Machine;
 use script_lang::big_from;
 use script_texts::Taker;
 
 /// Runs the events of the generated script of a seed, from a new machine on, and gives their steps to a taker.
-pub fn drive_generated<P: Pages, D: Drum, K: Taker>(
-    machine: &mut Machine<P>,
+pub fn drive_generated<M: System, D: Drum, K: Taker>(
+    machine: &mut Machine<M>,
     seed: u32,
     drum: &mut D,
     taker: &mut K,
@@ -30,11 +31,8 @@ pub fn drive_generated<P: Pages, D: Drum, K: Taker>(
     ensures drum { DrumStays D.fault_count D.read_count D.write_count D.size drum.old drum.new }
     ensures drum_cause { result ≡ Driven.DrumFault → Rose (D.fault_count drum.old) (D.fault_count drum.new) }
 
-    // Over pages in memory alone the drum is not asked.
-    ensures untouched { P.means.flat ≡ true → drum.new ≡ drum.old }
-
     // What the taker was given: the steps of the generated script's events.
-    ensures drove { Drove D.held K.stands K.cut machine.old drum.old (AreGenerated seed result) taker.old taker.new result }
+    ensures drove { Drove D.held K.stands K.cut machine.old drum.old drum.new (AreGenerated seed result) taker.old taker.new result }
 {
     let mut big = big_from(seed);
     while let Some(event) = big.next() {

@@ -29,7 +29,6 @@ pub fn run_in_memory(
     ensures faultless { IsFaultless result ⊎ (result ≡ Status.WriteFault) }
     ensures write_cause { result ≡ Status.WriteFault → Rose (⟦<MemSink as Sink>⟧.fault_count out.old) (⟦<MemSink as Sink>⟧.fault_count out.new) ⊎ Rose (⟦<MemSink as Sink>⟧.fault_count rec.old) (⟦<MemSink as Sink>⟧.fault_count rec.new) }
     ensures complete { IsRight words.now (⟦<SureDrum as Drum>⟧.size drum.old) (Some script.items) → IsFaultless result → (result ≡ Status.Done) ⊎ (result ≡ Status.Memory) }
-    ensures untouched { drum.new ≡ drum.old }
 {
     let mut script = SureSource::new(script);
     tenex(alloc, words, &mut script, out, rec, drum)

@@ -1,7 +1,7 @@
 //! The emulator: a console script is run, or a generated one, and its transcript and its record are written.
 //! To the layers above both texts are those of the plain machine, and each status has its cause.
-//! Stands on `machine_events` for the machine, on `flat_pages` for its pages, on `script_lang` for the script
-//! and on `texts` for both texts.
+//! Stands on `paged_events` for the machine, on `paged_system` for its system, on `known_slots` and `paged_store` for its pages,
+//! on `script_lang` for the script and on `texts` for both texts.
 #![tactic(auto)]
 
 mod asked;

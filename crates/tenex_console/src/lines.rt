@@ -1,17 +1,18 @@
 // The lines of a script, driven through a machine.
-ghost use Rattle.std.specs.Prelude.{◌≡◌, ◌≢◌, ◌≤◌, true, OnOk, OnErr, []};
+ghost use Rattle.std.specs.Prelude.{◌≡◌, ◌≢◌, ◌≤◌, OnOk, OnErr, []};
 ghost use Rattle.outside.specs.Faults.{Rose};
 ghost use Rattle.script_texts.specs.Taker.{GoesOn, IsCut, StaysOnward};
 ghost use Rattle.script_lang.specs.Lines.{Skips, NeedsRead};
-ghost use Rattle.machine_events.specs.Machines.{limit};
 ghost use Rattle.machine_events.specs.Outcome.{DrumStays};
 ghost use Rattle.tenex_console.specs.Driving.{Drove, IsNew};
+ghost use Rattle.tenex_console.specs.Machines.{limit};
 ghost use Rattle.tenex_console.specs.Verdicts.{Found, Verdict};
 
 use crate::driver::Driven;
-use machine_events::{Ended, Machine};
+use machine_events::Ended;
 use outside::{Drum, Failed, Source};
-use page_contracts::Pages;
+use page_waits::System;
+use paged_events::Machine;
 use script_lang::{Lines, Next};
 use script_texts::{Event, Taker};
 
@@ -21,8 +22,8 @@ const MOST_KEPT: u64 = 100_000;
 
 /// Runs each line's event as it is read, from a new machine on, and gives its steps to a taker, which hands
 /// on what it keeps before each read of the source, and behind each 100,000 turns before the next line.
-pub fn drive_lines<P: Pages, S: Source, D: Drum, K: Taker>(
-    machine: &mut Machine<P>,
+pub fn drive_lines<M: System, S: Source, D: Drum, K: Taker>(
+    machine: &mut Machine<M>,
     script: &mut S,
     drum: &mut D,
     taker: &mut K,
@@ -38,14 +39,11 @@ pub fn drive_lines<P: Pages, S: Source, D: Drum, K: Taker>(
     ensures drum { DrumStays D.fault_count D.read_count D.write_count D.size drum.old drum.new }
     ensures drum_cause { result ≡ Driven.DrumFault → Rose (D.fault_count drum.old) (D.fault_count drum.new) }
 
-    // Over pages in memory alone the drum is not asked.
-    ensures untouched { P.means.flat ≡ true → drum.new ≡ drum.old }
-
     // Before a read of the source that failed the taker had handed on all that it was given.
     ensures handed { result ≡ Driven.ReadFault → K.handed_on taker.new }
 
     // What the taker was given, and what the script is found to be.
-    ensures drove { Drove D.held K.stands K.cut machine.old drum.old (λ events. Found (S.left script.old) (S.left script.new) (Verdict result events)) taker.old taker.new result }
+    ensures drove { Drove D.held K.stands K.cut machine.old drum.old drum.new (λ events. Found (S.left script.old) (S.left script.new) (Verdict result events)) taker.old taker.new result }
 {
     let mut lines = Lines::new();
     let mut kept = 0;

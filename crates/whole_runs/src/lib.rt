@@ -20,6 +20,8 @@ mod limits;
 #[cfg(test)]
 mod memory_run;
 #[cfg(test)]
+mod paging;
+#[cfg(test)]
 mod same;
 #[cfg(test)]
 mod scripts;

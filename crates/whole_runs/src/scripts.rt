@@ -36,6 +36,7 @@ fn long_script(alloc: Global) -> Result<Vec<u8>, Memory> {
     Ok(script)
 }
 
+// With the map 513 have to be in 256 frames: 257 pages leave, and none comes back.
 #[test]
 fn a_long_script_is_its_own_record(rt: HostRuntime) {
     let script = made(&rt, long_script(rt.alloc()));
@@ -45,7 +46,7 @@ fn a_long_script_is_its_own_record(rt: HostRuntime) {
     same(
         &rt,
         ran.rec.bytes().strip_prefix(&script),
-        Some(b"E 0 0\n".as_slice()),
+        Some(b"E 0 257\n".as_slice()),
     );
 }
 

@@ -1,24 +1,27 @@
-use Rattle.std.proofs.Common.{Result, Ok, Err, IfOk, sym, ◌∙◌, ap}
+use Rattle.std.proofs.Common.{◌∙◌, ap, arith, sym}
 use Rattle.std.specs.Ordering.{nat_cmp}
+use Rattle.job_sched.specs.Schedules.{empty}
 use Rattle.plain_model.specs.State.{opening}
 use Rattle.plain_pages.specs.PlainPages.{opening_pages}
+use Rattle.tenex_console.proofs.Booting.{booted_machine, new_here}
 use Rattle.tenex_console.proofs.asked.boot.Goals as goal
 
--- five facts of a result make one
-if_all : {A E : Type 0} {P Q R S T U : A → Type 0} (r : Result A E) → ((x : A) → P x → Q x → R x → S x → T x → U x) → IfOk r P → IfOk r Q → IfOk r R → IfOk r S → IfOk r T → IfOk r U
-if_all (Ok x) all p q r s t = all x p q r s t
-if_all (Err e) all p q r s t = p
+pub boot-requires-clause-opening : goal.boot-requires-clause-opening
+boot-requires-clause-opening c d fits = c.in_ok-pages.ensures.plain d ∙ ap (opening_pages nat_cmp) (sym c.in_ok-pages.ensures.most)
 
-pub boot-requires-3-clause-opening : goal.boot-requires-3-clause-opening
-boot-requires-3-clause-opening c d u = c.in_ok-pages.ensures.plain d ∙ ap (opening_pages nat_cmp) (sym c.in_ok-pages.ensures.most)
+pub boot-requires-clause-here : goal.boot-requires-clause-here
+boot-requires-clause-here c home gone = new_here _ c.args.sizes.drum home c.in_ok-pages.ensures.homes gone
+
+pub boot-requires-clause-low : goal.boot-requires-clause-low
+boot-requires-clause-low c = let set = c.members-set.ensures ∙ c.in_ok-pages.ensures.members in omega (arith, set, c.requires.least_frames)
+
+pub boot-requires-clause-high : goal.boot-requires-clause-high
+boot-requires-clause-high c = let set = c.members-set.ensures ∙ c.in_ok-pages.ensures.members in omega (arith, set, c.requires.most_frames)
 
 pub returns : goal.returns
 returns c =
-    let most = c.in_ok-pages.ensures.most in
-    if_all c.boot-3.result
-    (λ m state limit none live auto_on. record {
-      new = record { live = live; auto_on = auto_on; none = none };
-      room_is = limit ∙ most;
-      opened = λ d homes. let s = state d (c.in_ok-pages.ensures.fits d homes) in record { fit = s.0; state = s.1 ∙ ap opening most };
-    })
-    c.boot-3.ensures.state c.boot-3.ensures.limit c.boot-3.ensures.done c.boot-3.ensures.live c.boot-3.ensures.auto
+    let new = c.in_ok-pages.ensures in
+    let waits = c.in_ok-waits.ensures in
+    booted_machine c.args.sizes.frames c.args.sizes.drum _ c.new.result c.in_ok-waits.waits c.new.ensures.waits c.new.ensures.live c.new.ensures.none waits.auto waits.bare waits.within
+    new.frames waits.core (waits.lists ∙ ap empty (c.members-set.ensures ∙ new.members)) (waits.limit ∙ new.most)
+    (λ d homes. let s = waits.state d (new.fits d homes) in (s.0, s.1 ∙ ap opening new.most))

@@ -5,13 +5,16 @@ use Rattle.tenex_console.specs.Headline.{IsTrueOf}
 use Rattle.tenex_console.specs.Statuses.{IsEarly, IsUsageOrBefore, Judges, Ran}
 use Rattle.tenex_console.proofs.Isolation.{isolated}
 use Rattle.tenex_console.proofs.Asking.{asks_generated, asks_script, not_usage}
-use Rattle.tenex_console.proofs.Statuses.{complete_run, faultless, late, never_judged, never_passed, never_short, ran_asked, stopped, tells_ran, tells_stopped, usage_true}
+use Rattle.tenex_console.proofs.Statuses.{complete_run, faultless, late, never_passed, never_short, ran_asked, stopped, tells_ran, tells_stopped, usage_true}
 use Rattle.tenex_console.proofs.call.tenex.Goals as goal
 
-pub returns-in-Ok-clause-headline : goal.returns-in-Ok-clause-headline
-returns-in-Ok-clause-headline g c is =
+pub returns-in-Ok-clause-framed : goal.returns-in-Ok-clause-framed
+returns-in-Ok-clause-framed g c is =
     let asked = c.in-Ok.ensures.booted in
-    (asked.0, asked.1.asks, subst (Ran asked.0 _) is (ran_asked _ asked.0 _ c.run.result asked.2 (c.run.ensures.ran asked.0.sizes (sym asked.3.room_is))))
+    (asked.0, asked.1.asks, λ paged. subst (Ran asked.0 _) is (ran_asked _ asked.0 _ _ _ c.run.result asked.2 (sym asked.3.core_is) (sym asked.3.room_is) c.run.ensures.ran paged))
+
+pub returns-in-Ok-clause-headline : goal.returns-in-Ok-clause-headline
+returns-in-Ok-clause-headline g c is = let over = returns-in-Ok-clause-framed g c is in (over.0, over.1, λ paged. (over.2 paged).0)
 
 pub returns-in-Ok-clause-alone : goal.returns-in-Ok-clause-alone
 returns-in-Ok-clause-alone g c is = isolated c.args.words.now _ (returns-in-Ok-clause-headline g c is)
@@ -19,7 +22,8 @@ returns-in-Ok-clause-alone g c is = isolated c.args.words.now _ (returns-in-Ok-c
 pub returns-in-Ok-clause-tells : goal.returns-in-Ok-clause-tells
 returns-in-Ok-clause-tells g c =
     let asked = c.in-Ok.ensures.booted in
-    tells_ran c.args.words.now (g.D.Drum.size c.args.drum.now) _ c.run.result (asked.0, subst (λ n. IsAsked c.args.words.now n asked.0) c.pages.ensures asked.1, (ran_asked _ asked.0 _ c.run.result asked.2 (c.run.ensures.ran asked.0.sizes (sym asked.3.room_is))))
+    tells_ran c.args.words.now (g.D.Drum.size c.args.drum.now) _ c.run.result c.run.ensures.began
+    (asked.0, subst (λ n. IsAsked c.args.words.now n asked.0) c.pages.ensures asked.1, ran_asked _ asked.0 _ _ _ c.run.result asked.2 (sym asked.3.core_is) (sym asked.3.room_is) c.run.ensures.ran)
 
 pub returns-in-Ok-clause-judged : goal.returns-in-Ok-clause-judged
 returns-in-Ok-clause-judged g c bytes reads told =
@@ -38,9 +42,7 @@ pub returns-in-Ok-clause-long : goal.returns-in-Ok-clause-long
 returns-in-Ok-clause-long g c bytes es reads told long = never_short c.run.result bytes es (returns-in-Ok-clause-judged g c bytes reads told) long
 
 pub returns-in-Ok-clause-usage : goal.returns-in-Ok-clause-usage
-returns-in-Ok-clause-usage g c is =
-    let asked = c.in-Ok.ensures.booted in
-    absurd (late asked.0 _ c.run.result (ran_asked _ asked.0 _ c.run.result asked.2 (c.run.ensures.ran asked.0.sizes (sym asked.3.room_is))) (subst IsEarly (sym is) tt))
+returns-in-Ok-clause-usage g c is = absurd (late c.run.result c.run.ensures.began (subst IsEarly (sym is) tt))
 
 pub returns-in-Ok-clause-always_usage : goal.returns-in-Ok-clause-always_usage
 returns-in-Ok-clause-always_usage g c usage =
@@ -48,9 +50,13 @@ returns-in-Ok-clause-always_usage g c usage =
     absurd (not_usage c.args.words.now (g.D.Drum.size c.args.drum.now) asked.0 (subst (λ n. IsAsked c.args.words.now n asked.0) c.pages.ensures asked.1) usage)
 
 pub returns-in-Ok-clause-unread : goal.returns-in-Ok-clause-unread
-returns-in-Ok-clause-unread g c early =
-    let asked = c.in-Ok.ensures.booted in
-    absurd (late asked.0 _ c.run.result (ran_asked _ asked.0 _ c.run.result asked.2 (c.run.ensures.ran asked.0.sizes (sym asked.3.room_is))) early)
+returns-in-Ok-clause-unread g c early = absurd (late c.run.result c.run.ensures.began early)
+
+pub returns-in-Ok-clause-untouched : goal.returns-in-Ok-clause-untouched
+returns-in-Ok-clause-untouched g c early = absurd (late c.run.result c.run.ensures.began early)
+
+pub returns-in-Ok-clause-write_cause : goal.returns-in-Ok-clause-write_cause
+returns-in-Ok-clause-write_cause g c = c.run.ensures.caused.write
 
 pub returns-in-Ok-clause-complete : goal.returns-in-Ok-clause-complete
 returns-in-Ok-clause-complete g c steady = faultless c.args.words.now (g.D.Drum.size c.args.drum.now) _ c.run.result _ (returns-in-Ok-clause-tells g c) c.run.ensures.caused steady
@@ -58,10 +64,9 @@ returns-in-Ok-clause-complete g c steady = faultless c.args.words.now (g.D.Drum.
 pub returns-in-Ok-clause-complete_run : goal.returns-in-Ok-clause-complete_run
 returns-in-Ok-clause-complete_run g c right fine =
     let asked = c.in-Ok.ensures.booted in
-    let ran = ran_asked _ asked.0 _ c.run.result asked.2 (c.run.ensures.ran asked.0.sizes (sym asked.3.room_is)) in
     complete_run c.args.words.now (g.D.Drum.size c.args.drum.now) _ c.run.result
-    (λ is. absurd (late asked.0 _ c.run.result ran (subst IsEarly (sym is) tt)))
-    (returns-in-Ok-clause-judged g c) (λ seed generates. never_judged asked.0 _ c.run.result ran seed (asks_generated c.args.words.now asked.0 seed asked.1.asks generates)) right fine
+    (λ is. absurd (late c.run.result c.run.ensures.began (subst IsEarly (sym is) tt)))
+    (returns-in-Ok-clause-judged g c) (λ seed generates. c.run.ensures.generated seed (asked.2 ∙ asks_generated c.args.words.now asked.0 seed asked.1.asks generates)) right fine
 
 pub returns-in-Ok-clause-unfaulted : goal.returns-in-Ok-clause-unfaulted
 returns-in-Ok-clause-unfaulted g c = c.run.ensures.caused.unfaulted
@@ -69,12 +74,15 @@ returns-in-Ok-clause-unfaulted g c = c.run.ensures.caused.unfaulted
 pub returns-in-Err-clause-headline : goal.returns-in-Err-clause-headline
 returns-in-Err-clause-headline g c is = absurd (stopped (λ s. s ≡ Done → ⊥) c.in-Err.why c.stop.result c.stop.ensures.stops (λ e. absurd (cc e)) (λ e. absurd (cc e)) (λ e. absurd (cc e)) is)
 
+pub returns-in-Err-clause-framed : goal.returns-in-Err-clause-framed
+returns-in-Err-clause-framed g c is = absurd (stopped (λ s. s ≡ Done → ⊥) c.in-Err.why c.stop.result c.stop.ensures.stops (λ e. absurd (cc e)) (λ e. absurd (cc e)) (λ e. absurd (cc e)) is)
+
 pub returns-in-Err-clause-alone : goal.returns-in-Err-clause-alone
 returns-in-Err-clause-alone g c is = isolated c.args.words.now _ (returns-in-Err-clause-headline g c is)
 
 pub returns-in-Err-clause-tells : goal.returns-in-Err-clause-tells
 returns-in-Err-clause-tells g c =
-    tells_stopped c.args.words.now (g.D.Drum.size c.args.drum.now) _ _ _ c.in-Err.why c.stop.result c.stop.ensures.stops (subst (λ n. IsTrueOf c.args.words.now n c.in-Err.why) c.pages.ensures c.in-Err.ensures.why)
+    tells_stopped c.args.words.now (g.D.Drum.size c.args.drum.now) _ _ _ _ c.in-Err.why c.stop.result c.stop.ensures.stops (subst (λ n. IsTrueOf c.args.words.now n c.in-Err.why) c.pages.ensures c.in-Err.ensures.why)
 
 pub returns-in-Err-clause-judged : goal.returns-in-Err-clause-judged
 returns-in-Err-clause-judged g c bytes reads told = stopped (λ s. Judges s bytes) c.in-Err.why c.stop.result c.stop.ensures.stops tt tt tt

@@ -1,4 +1,5 @@
 use Rattle.std.proofs.Common.{refl, sym, subst, ◌∙◌, ap, arith, [], ◌∷◌}
+use Rattle.page_waits.specs.Placed.{AreOnDrum}
 use Rattle.tenex_console.specs.declared.driver.Driven.TheVariants.{Done}
 use Rattle.tenex_console.proofs.Drums.{drum_on, drum_still}
 use Rattle.tenex_console.proofs.Generating.{Generated, generated_all, generated_few, generated_front, generated_further, generated_more, generated_next_few, generated_none, next_first, next_none}
@@ -10,10 +11,12 @@ loop-event-init g c = record {
   later = omega arith;
   onward = record { each = λ first h. h };
   drum = drum_still g.D.Drum.fault_count g.D.Drum.read_count g.D.Drum.write_count g.D.Drum.size c.args.drum.now;
-  untouched = λ flat. refl;
   most = refl;
+  core = refl;
   live = c.requires.new.live;
-  so_far = so_far_none (subst (λ rest. Generated c.args.seed rest []) (sym c.big_from-big.ensures) (generated_none c.args.seed)) c.requires.new.auto_on c.requires.new.none;
+  bare = c.requires.new.bare;
+  within = c.requires.new.within;
+  so_far = so_far_none c.requires.new.core c.requires.new.empty (subst (λ rest. Generated c.args.seed rest []) (sym c.big_from-big.ensures) (generated_none c.args.seed)) c.requires.new.auto_on c.requires.new.none;
 }
 
 pub loop-event-preserved : goal.loop-event-preserved
@@ -25,9 +28,11 @@ loop-event-preserved g c =
       later = omega (arith, i.later, c.event.ensures.later);
       onward = record { each = λ first h. c.event.ensures.onward.each first (i.onward.each first h) };
       drum = drum_on g.D.Drum.fault_count g.D.Drum.read_count g.D.Drum.write_count g.D.Drum.size i.drum c.event.ensures.drum;
-      untouched = λ flat. c.event.ensures.untouched flat ∙ i.untouched flat;
       most = c.event.ensures.limit ∙ i.most;
+      core = c.event.ensures.frames ∙ i.core;
       live = c.in-Went.ensures.live.1 refl;
+      bare = c.in-Went.ensures.bare refl;
+      within = c.in-Went.ensures.within refl;
       so_far = so_far_more i.so_far e c.in-Some.ensures.fits (generated_more i.so_far.are first) (generated_further i.so_far.are first) c.event.ensures.auto (c.in-Went.ensures.went refl);
     }
 
@@ -48,13 +53,15 @@ returns-in-TakerFault-clause-drove g c =
     let i = c.loop-event.invariant in
     let e = c.in-Some.event in
     let first = next_first c.loop-event.big e (sym c.in-Some.is ∙ c.next.ensures.event) in
-    ran_cut i.so_far e c.in-Some.ensures.fits (generated_front (generated_more i.so_far.are first)) (generated_next_few i.so_far.are first) (c.in-TakerFault.ensures.cut refl)
+    ran_cut i.so_far e c.in-Some.ensures.fits (generated_front (generated_more i.so_far.are first)) (generated_next_few i.so_far.are first) (c.in-TakerFault.ensures.cutoff refl)
 
 pub returns-clause-drove : goal.returns-clause-drove
 returns-clause-drove g c =
     let i = c.loop-event.invariant in
     let none = next_none c.loop-event.big (sym c.in_default.is ∙ c.next.ensures.event) in
-    ran i.so_far (generated_few i.so_far.are) Done (λ es ss x. x) (λ is x. x) (λ is x. x) (generated_all i.so_far.are none)
+    ran i.so_far (generated_few i.so_far.are) Done (λ es ss x. x) (λ is x. x) (λ is x. x)
+    (λ is d framed fits. subst (λ n. AreOnDrum n (g.M.System.means.plain c.loop-event.machine.waits.system d) d) i.core (g.met.M.System.placed c.loop-event.machine.waits.system d framed fits))
+    (generated_all i.so_far.are none)
 
 pub returns-in-DrumFault-clause-drum : goal.returns-in-DrumFault-clause-drum
 returns-in-DrumFault-clause-drum g c = drum_on g.D.Drum.fault_count g.D.Drum.read_count g.D.Drum.write_count g.D.Drum.size c.loop-event.invariant.drum c.event.ensures.drum
@@ -62,11 +69,5 @@ returns-in-DrumFault-clause-drum g c = drum_on g.D.Drum.fault_count g.D.Drum.rea
 pub returns-in-DrumFault-clause-drum_cause : goal.returns-in-DrumFault-clause-drum_cause
 returns-in-DrumFault-clause-drum_cause g c is = omega (arith, c.loop-event.invariant.drum.faults_later, c.in-DrumFault.ensures.drum_cause refl)
 
-pub returns-in-DrumFault-clause-untouched : goal.returns-in-DrumFault-clause-untouched
-returns-in-DrumFault-clause-untouched g c flat = c.event.ensures.untouched flat ∙ c.loop-event.invariant.untouched flat
-
 pub returns-in-TakerFault-clause-drum : goal.returns-in-TakerFault-clause-drum
 returns-in-TakerFault-clause-drum g c = drum_on g.D.Drum.fault_count g.D.Drum.read_count g.D.Drum.write_count g.D.Drum.size c.loop-event.invariant.drum c.event.ensures.drum
-
-pub returns-in-TakerFault-clause-untouched : goal.returns-in-TakerFault-clause-untouched
-returns-in-TakerFault-clause-untouched g c flat = c.event.ensures.untouched flat ∙ c.loop-event.invariant.untouched flat

@@ -1,0 +1,24 @@
+//! The file of the drum: it is made anew, and no other run in the same folder uses it meanwhile.
+use std::fs::{File, OpenOptions, TryLockError};
+use std::io;
+
+/// The file in the current folder in which the pages stand that are not in core.
+pub(crate) const DRUM: &str = "tenex.drum";
+
+/// Makes the file of the drum anew, open to be read and written, and keeps other runs from it for as long as it is open; a
+/// file system without locks keeps nobody out. Err: it can't be made, or another run uses it, which is left as it is.
+pub(crate) fn make_drum(rt: &HostRuntime) -> io::Result<File> {
+    let file = OpenOptions::new()
+        .read(true)
+        .write(true)
+        .create(true)
+        .open(rt, DRUM)?;
+    if !file.metadata()?.is_file() {
+        return Err(io::Error::other("the drum has to be a file"));
+    }
+    if let Err(TryLockError::WouldBlock) = file.try_lock() {
+        return Err(io::Error::other("another run uses the drum"));
+    }
+    file.set_len(0)?;
+    Ok(file)
+}
