@@ -4,7 +4,7 @@ ghost use Rattle.std.specs.Prelude.{◌≤◌};
 use word36::Word;
 
 /// How many words a row has at most.
-pub(crate) const MOST_WORDS: usize = 4;
+pub(crate) const MOST_WORDS: usize = 8;
 
 /// What a row asks. Opcodes and words stand in the order in which the operation takes them.
 #[derive(Clone, Copy)]
@@ -33,6 +33,11 @@ pub(crate) enum Operation {
     Load,
     /// `DEPOSIT`: a byte pointer, the word at it and the byte.
     Deposit,
+    /// `DEED`: an opcode, an accumulator, its word and that of the accumulator behind it, the left half with the flags, the
+    /// effective address, the last word taken for that, and the operand.
+    Deed,
+    /// `PLACES`: an opcode, an accumulator, its word, and the effective address.
+    Places,
 }
 
 impl Operation {
@@ -45,7 +50,8 @@ impl Operation {
             Operation::Instruction | Operation::Increment => 1,
             Operation::Mask | Operation::Holds | Operation::Load => 2,
             Operation::Boolean | Operation::Half | Operation::Test | Operation::Deposit => 3,
-            Operation::Arithmetic | Operation::Shift => MOST_WORDS,
+            Operation::Arithmetic | Operation::Shift | Operation::Places => 4,
+            Operation::Deed => MOST_WORDS,
         }
     }
 }
@@ -60,7 +66,7 @@ pub(crate) struct Row {
 }
 
 /// The operations by their names.
-const OPERATIONS: [(&str, Operation); 12] = [
+const OPERATIONS: [(&str, Operation); 14] = [
     ("ARITHMETIC", Operation::Arithmetic),
     ("SHIFT", Operation::Shift),
     ("BOOLEAN", Operation::Boolean),
@@ -73,6 +79,8 @@ const OPERATIONS: [(&str, Operation); 12] = [
     ("INCREMENT", Operation::Increment),
     ("LOAD", Operation::Load),
     ("DEPOSIT", Operation::Deposit),
+    ("DEED", Operation::Deed),
+    ("PLACES", Operation::Places),
 ];
 
 /// The operation of this name.

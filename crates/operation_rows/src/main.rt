@@ -1,9 +1,10 @@
 //! Rows of operations: reads operations on words, one a line, and prints beside each what it comes to.
 //! No layer stands above; to a reader a row is an operation of the handbook with its words in octal.
-//! Stands on ka10_alu, ka10_bytes and ka10_table.
+//! Stands on ka10_alu, ka10_bytes, ka10_table and ka10_deeds.
 #![tactic(auto)]
 
 mod asked;
+mod deeds;
 mod operations;
 mod outcomes;
 

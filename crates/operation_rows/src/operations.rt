@@ -2,6 +2,7 @@
 ghost use Rattle.std.specs.Prelude.{◌<◌, IfSome};
 
 use crate::asked::{Operation, Row};
+use crate::deeds::{done, places};
 use crate::outcomes::Outcome;
 use ka10_alu::{arith, boolean, half, holds, mask, shift, test};
 use ka10_bytes::{deposit, increment, load};
@@ -11,7 +12,8 @@ use word36::opcodes::{ADD, ASH, CAI, HLL, LSHC, MOVE, SETZ, TRN, TSON};
 
 /// What a row comes to. None where its first word is no opcode of its operation.
 pub(crate) fn outcome_of(asked: &Row) -> Option<Outcome> {
-    let [first, second, third, fourth] = asked.words;
+    let words = asked.words;
+    let (first, second, third, fourth) = (words[0], words[1], words[2], words[3]);
     match asked.operation {
         Operation::Arithmetic => arithmetic(opcode(first)?, second, third, fourth),
         Operation::Shift => shifted(opcode(first)?, second, third, fourth),
@@ -25,6 +27,8 @@ pub(crate) fn outcome_of(asked: &Row) -> Option<Outcome> {
         Operation::Increment => Some(Outcome::Word(increment(first))),
         Operation::Load => Some(Outcome::Word(load(first, second))),
         Operation::Deposit => Some(Outcome::Word(deposit(first, second, third))),
+        Operation::Deed => done(opcode(first)?, &words),
+        Operation::Places => places(opcode(first)?, second, third, fourth),
     }
 }
 

@@ -1,5 +1,6 @@
 // What comes of a row, and how it is shown.
 use ka10_alu::Out;
+use ka10_deeds::{Destination, Post};
 use ka10_table::{Family, OpMode, TableRow};
 use std::io::{self, Write};
 use word36::{Flags, Word, fill_octal};
@@ -21,6 +22,22 @@ pub(crate) enum Outcome {
     Instruction(TableRow),
     /// How many opcodes are no instruction, and how many there are.
     Counts(usize, usize),
+    /// What an instruction leaves.
+    Left(Left),
+    /// From which address an instruction takes its operand, and where it stores a word.
+    Places(Option<u32>, Destination),
+}
+
+/// What an instruction leaves: an accumulator and the one behind it, the word that it stores, the program counter, the left half
+/// with the flags, and what it posts.
+#[derive(Drop)]
+pub(crate) struct Left {
+    pub(crate) ac: Word,
+    pub(crate) next: Word,
+    pub(crate) stored: Option<Word>,
+    pub(crate) pc: u32,
+    pub(crate) flags: u32,
+    pub(crate) post: Post,
 }
 
 /// Prints what came of a row, each part behind a space.
@@ -37,6 +54,8 @@ pub(crate) fn show<W: Write>(outcome: &Outcome, out: &mut W) -> io::Result<()> {
         Outcome::Answer(false) => out.write_all(b" no"),
         Outcome::Instruction(row) => show_instruction(row, out),
         Outcome::Counts(illegal, all) => write!(out, " {illegal} illegal of {all}"),
+        Outcome::Left(left) => show_left(left, out),
+        Outcome::Places(operand, destination) => show_places(*operand, *destination, out),
     }
 }
 
@@ -71,6 +90,37 @@ fn show_flags<W: Write>(flags: &Flags, out: &mut W) -> io::Result<()> {
     show_if(flags.fov, b" floating overflow", out)?;
     show_if(flags.bis, b" byte increment", out)?;
     show_if(flags.nodiv, b" no divide", out)
+}
+
+/// Prints the accumulators, the word that is stored, the program counter and the flags, and the channel that is posted.
+fn show_left<W: Write>(left: &Left, out: &mut W) -> io::Result<()> {
+    show_word(left.ac, out)?;
+    show_word(left.next, out)?;
+    match left.stored {
+        Some(word) => show_word(word, out)?,
+        None => out.write_all(b" -")?,
+    }
+    write!(out, " {:o} {:o}", left.pc, left.flags)?;
+    show_if(left.post == Post::Overflow, b" overflow", out)?;
+    show_if(left.post == Post::Pushdown, b" pushdown", out)
+}
+
+/// Prints the address of the operand, and where a word is stored.
+fn show_places<W: Write>(
+    operand: Option<u32>,
+    destination: Destination,
+    out: &mut W,
+) -> io::Result<()> {
+    match operand {
+        Some(at) => write!(out, " from {at:o}")?,
+        None => out.write_all(b" from nowhere")?,
+    }
+    match destination {
+        Destination::Nowhere => out.write_all(b" to nowhere"),
+        Destination::Back(at) => write!(out, " back to {at:o}"),
+        Destination::Into(at) => write!(out, " to {at:o}"),
+        Destination::Before(at) => write!(out, " to {at:o} before its accumulator"),
+    }
 }
 
 /// Prints the family, the mode and the code.

@@ -1,10 +1,8 @@
-//! Tests of texts: the script's lines, the transcript and the record, the command's words, sources and sinks.
-//! No layer stands above; to a reader each row of a table is bytes and what they are read as.
-//! Stands on script_lang, texts, command_words and outside.
+//! Tests of texts: the script's lines as events, the transcript and the record, sources, sinks and drums.
+//! No layer stands above; to a reader each test is bytes and what they are, or what is written.
+//! Stands on script_lang, texts and outside.
 #![tactic(auto)]
 
-#[cfg(test)]
-mod asked;
 #[cfg(test)]
 mod canonical;
 #[cfg(test)]
@@ -12,17 +10,11 @@ mod drums;
 #[cfg(test)]
 mod events;
 #[cfg(test)]
-mod file_names;
-#[cfg(test)]
 mod fixed_texts;
-#[cfg(test)]
-mod generated;
 #[cfg(test)]
 mod laws;
 #[cfg(test)]
 mod made;
-#[cfg(test)]
-mod pieces;
 #[cfg(test)]
 mod same;
 #[cfg(test)]

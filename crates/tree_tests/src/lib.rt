@@ -1,5 +1,5 @@
-//! Tests of the forks of jobs: as they are made, found, killed, frozen and run, and whose turn it is.
-//! No layer stands above; to a reader each test is the life of a job, or of a schedule, step by step.
+//! Tests of whose turn it is, and the laws of the forks of jobs.
+//! No layer stands above; to a reader each test is the life of a schedule, step by step.
 //! Stands on fork_tree and job_sched.
 #![tactic(auto)]
 
@@ -11,5 +11,3 @@ mod made;
 mod same;
 #[cfg(test)]
 mod schedules;
-#[cfg(test)]
-mod trees;

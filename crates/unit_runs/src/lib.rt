@@ -12,10 +12,6 @@ mod bursts;
 #[cfg(test)]
 mod byte_steps;
 #[cfg(test)]
-mod deeds;
-#[cfg(test)]
-mod operands;
-#[cfg(test)]
 mod page_steps;
 #[cfg(test)]
 mod pointed_texts;

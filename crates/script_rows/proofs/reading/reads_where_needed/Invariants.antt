@@ -1,5 +1,5 @@
 use Rattle.script_lang.specs.Lines.{IsOpen}
-use Rattle.text_tests.proofs.pieces.reads_where_needed.Given as goal
+use Rattle.script_rows.proofs.reading.reads_where_needed.Given as goal
 
 abbrev pub invariant-loop-line : goal.invariant-loop-line
 invariant-loop-line l = IsOpen l.lines
