@@ -1,8 +1,9 @@
 #!/usr/bin/env bash
-# Prints how many machine instructions a unit takes, and how many units a second the program runs, as ./tenex
-# builds it, in loops of a few instructions: alone; beside other jobs; at the end of chains; in a job of thirty
-# forks of which one runs, and of which all do; and how long it takes to make and kill forks. All leave out the
-# start of the program: they are the difference between two runs. The seconds are of processor time.
+# Prints how many machine instructions a unit takes over frames, and in a replay, whose pages are in memory; and how
+# many units a second the program runs, as ./tenex builds it, in loops of a few instructions: alone; beside other jobs;
+# at the end of chains; in a job of thirty forks of which one runs, and of which all do; and how long it takes to make
+# and kill forks. All leave out the start of the program: they are the difference between two runs. The seconds are of
+# processor time.
 # Status 1: in a job of thirty forks of which one runs a unit takes more than 1.1 times as many machine
 # instructions as in a job of one; or 100,000 forks take more than two seconds to be made and killed.
 set -eu
@@ -74,7 +75,7 @@ units_in_a_us() {
 }
 
 # measure NAME MILLIONS SCRIPT..: a line of the table, of what makes a script where the units of its RUN lines follow.
-# Leaves the tenths in counted, which is 0 where nothing counts them.
+# Leaves the tenths over frames in counted, which are 0 where nothing counts them.
 measure() {
     local name=$1 of=$2
     shift 2
@@ -83,13 +84,17 @@ measure() {
     [ "$(tail -n 1 tenex.record)" = 'E 0 0' ]
     ! grep -q '^I' tenex.record
     counted=0
-    [ -z "$counts" ] || counted=$(tenths "$@")
-    printf '%-45s %12s %14d' "$name" "$((counted / 10)).$((counted % 10))" "$(units_in_a_us "$of" "$@")"
+    in_memory=0
+    [ -z "$counts" ] || {
+        counted=$(tenths "$@")
+        in_memory=$(tenths_in_memory)
+    }
+    printf '%-45s %10s %10s %12d' "$name" "$((counted / 10)).$((counted % 10))" "$((in_memory / 10)).$((in_memory % 10))" "$(units_in_a_us "$of" "$@")"
 }
 
 counts=$(command -v valgrind || true)
 [ -n "$counts" ] || echo 'machine instructions: not counted, as valgrind is not there'
-printf '%-45s %12s %14s %8s\n' loop 'instructions' 'units a us' 'ratio'
+printf '%-45s %10s %10s %12s %8s\n' 'loop, machine instructions' 'frames' 'memory' 'units a us' 'ratio'
 declare -A alone
 for loop in "${order[@]}"; do
     measure "$loop" "$millions" script 1 '' 0 "$loop"

@@ -112,15 +112,17 @@ fresh
 ends "sizes that are asked for" 0 '' 'E 0 0\n' run --drum=256 --frames 160 </dev/null
 
 # A generated script: eight users whose programs make 2774 turns of three units, and end in three more each, two of
-# them calls. The rest of its 20000 turns are idle; each user's @, B and the return to the monitor are five characters.
+# them calls. The rest of its 20000 turns are idle; each user's @, B and the return to the monitor are five characters. How often the drum
+# is read and written, frames.py works out.
 summary='S 162 8346 11654 40'
-for words in '7 --frames 160' '7 --frames 8192' '--drum=16384 7' '--frames 160 7 --drum 16384'; do
+for case in '1034 1989 7 --frames 160' '9 35 7 --frames 8192' '1125 1984 --drum=16384 7' '1034 1989 --frames 160 7 --drum 16384'; do
+    read -r reads writes words <<<"$case"
     fresh
     cases=$((cases + 1))
     # shellcheck disable=SC2086 # the words of a command are separate arguments
     (cd "$work/at" && exec "$program" big $words) <"$work/script" >"$work/out" 2>"$work/messages" || fail "big $words: status $?"
     [ "$(tail -n 1 "$work/out")" = "$summary" ] || fail "big $words: the last line is '$(tail -n 1 "$work/out")'"
-    [ "$(tail -n 1 "$work/at/tenex.record")" = 'E 0 0' ] || fail "big $words: the record ends with '$(tail -n 1 "$work/at/tenex.record")'"
+    [ "$(tail -n 1 "$work/at/tenex.record")" = "E $reads $writes" ] || fail "big $words: the record ends with '$(tail -n 1 "$work/at/tenex.record")'"
     [ ! -s "$work/messages" ] || fail "big $words: '$(cat "$work/messages")'"
     units=$(awk '/^U / { n += $4 } /^I / { i += $2 } END { print n, i }' "$work/at/tenex.record")
     [ "S 162 $units 40" = "$summary" ] || fail "big $words: the record has $units units and idle entries"
@@ -230,7 +232,7 @@ ends "more turns than a script may ask for" 2 '?LINE 1099513\n' 'I 1099511627776
 said='tenex: there is no memory'
 fresh
 memory=40000
-ends "no memory" 4 '?MEMORY\n' '' run <"$top/examples/first.script"
+ends "no memory for so many frames" 4 '?MEMORY\n' '' run --frames 8192 <"$top/examples/first.script"
 memory=
 
 said='tenex: standard input: '

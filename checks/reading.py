@@ -52,7 +52,8 @@ class File:
         self.within = []
         self.name = None
         with open(path, encoding="utf-8") as file:
-            for line in file.read().split("\n"):
+            # the head of a module may go over several lines
+            for line in re.sub(r"^( *module (?:(?! where$)[^\n])*)\n +", r"\1 ", file.read(), flags=re.M).split("\n"):
                 self.take(line)
 
     def take(self, line):
