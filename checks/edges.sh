@@ -243,8 +243,8 @@ grep -v '^E ' "$work/at/tenex.record" >"$work/front_record"
 { cat "$work/front" && yes 'RUN 1000000' | head -n 100000; } >"$work/long"
 for signal in TERM INT HUP; do
     fresh
-    # (a command in the background of a script ignores INT, but for env)
-    (cd "$work/at" && exec env --default-signal=INT "$work/program" run --frames 160) <"$work/long" >"$work/out" 2>"$work/messages" &
+    # (a command in the background of a script ignores INT, and HUP where the script does, but for env)
+    (cd "$work/at" && exec env --default-signal=INT,HUP "$work/program" run --frames 160) <"$work/long" >"$work/out" 2>"$work/messages" &
     running=$!
     for ((tries = 0; tries < 300; tries++)); do
         ! grep -q '^EXAMINE' "$work/at/tenex.record" 2>/dev/null || break
