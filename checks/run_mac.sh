@@ -22,6 +22,8 @@ events() {
 }
 
 for text in "$top"/examples/lesson_*.mac; do
+    # (the program of another terminal stands in the script of the first one's)
+    [ -e "${text%.mac}.script" ] || continue
     cases=$((cases + 1))
     script=${text%.mac}.script
     "$top/run-mac" --script "$text" "$script" | events >"$work/found"
