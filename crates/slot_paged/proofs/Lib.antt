@@ -1,3 +1,4 @@
 pub mod HousedPages
 pub mod SettledPages
 pub mod ChangedEntries
+pub mod EmptyEntries

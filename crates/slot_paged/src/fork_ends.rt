@@ -4,15 +4,15 @@ ghost use Rattle.std.specs.Prelude.{◌≡◌};
 use crate::slot_paged::SlotPaged;
 use machine_names::{ForkName, SPACE_PAGES, Slot};
 use page_contracts::Store;
-use pager_walk::end;
+use pager_walk::{Looked, PagedEntry, end, entry};
 use share_table::Pointer;
 
 impl<S: Store> SlotPaged<S> {
-    ghost use Rattle.std.specs.Prelude.{◌≡◌, None, Some, true};
+    ghost use Rattle.std.specs.Prelude.{◌≡◌, ◌<◌, None, Some, true};
     ghost use Rattle.machine_names.specs.declared.names.TheConstants.{SPACE_PAGES};
     ghost use Rattle.page_contracts.specs.Stores.{IsFreed};
     ghost use Rattle.pager_walk.specs.MapPages.{index_of, root_at};
-    ghost use Rattle.pager_walk.specs.PagedMaps.{map_away};
+    ghost use Rattle.pager_walk.specs.PagedMaps.{look_at, map_away};
     ghost use Rattle.paged_tables.specs.EndedForks.{EmptiesFork, fork_gone};
     ghost use Rattle.paged_tables.specs.FreedEntries.{EndsFork, FreesEntries};
     ghost use Rattle.paged_tables.specs.PagedMeaning.{lives_in};
@@ -26,8 +26,24 @@ impl<S: Store> SlotPaged<S> {
         ensures frees { FreesEntries S.means self.old.store self.new.store (beside_of self.old.tables) (beside_of self.new.tables) fork SPACE_PAGES }
     {
         for page in 0..SPACE_PAGES as u16 {
-            self.set_unnamed(Slot { fork, page }, Pointer::Empty);
+            let at = Slot { fork, page };
+            if self.is_empty(at) {
+                continue;
+            }
+            self.set_unnamed(at, Pointer::Empty);
         }
+    }
+
+    // Whether the entry of a slot is empty. Most are where a fork ends, and these are left as they are.
+    #[inline(always)]
+    fn is_empty(&self, at: Slot) -> bool
+        requires page { at.page < SPACE_PAGES }
+        ensures { result ≡ true → look_at (beside_of self.now.tables).tables (S.means.homes self.now.store) at ≡ Looked.Is PagedEntry.Empty }
+    {
+        matches!(
+            entry(&self.store, &self.tables.tables, at),
+            Looked::Is(PagedEntry::Empty)
+        )
     }
 
     // A fork's map goes, and its home is free.

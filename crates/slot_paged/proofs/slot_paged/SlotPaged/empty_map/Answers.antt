@@ -1,10 +1,11 @@
-use Rattle.std.proofs.Common.{◌≡◌, ℕ, refl, subst, arith}
+use Rattle.std.proofs.Common.{rules, ◌≡◌, ℕ, refl, subst, arith}
 use Rattle.pager_walk.specs.declared.paged_entry.PagedEntry.TheVariants as paged
 use Rattle.paged_tables.specs.EndedForks.{EmptiesFork}
 use Rattle.paged_tables.specs.FreedEntries.{FreesEntries}
 use Rattle.paged_tables.specs.PagedTables.{beside_of}
 use Rattle.paged_tables.proofs.EmptiedForks.{empties_more, empties_none, near_later, numbered_lives}
 use Rattle.paged_tables.proofs.EntriesFreed.{frees_more, frees_none}
+use Rattle.slot_paged.proofs.EmptyEntries.{empties_empty, frees_empty}
 use Rattle.slot_paged.proofs.slot_paged.SlotPaged.empty_map.Goals as goal
 
 pub loop-page-init : goal.loop-page-init
@@ -35,6 +36,18 @@ loop-page-preserved g c =
     let near = near_later store s.store mid.store b (beside_of mid.tables) c.args.fork c.loop-page.page mid.kept so_far.0 c.requires.lives c.requires.near in (
       empties_more store s.store mid.store new.store b (beside_of mid.tables) (beside_of new.tables) c.args.fork c.loop-page.page mid.kept (g.met.S.Store.sound mid.store).pages c.loop-page-test.true near.0.0 near.0.1 near.1 so_far.0 (c.set_unnamed.ensures.sets paged.Empty refl),
       frees_more store s.store mid.store new.store b (beside_of mid.tables) (beside_of new.tables) c.args.fork c.loop-page.page so_far.0.maps so_far.1 c.set_unnamed.ensures.frees,
+    )
+
+pub loop-page-preserved-then-is_empty : goal.loop-page-preserved-then-is_empty
+loop-page-preserved-then-is_empty g c =
+    let s = c.args.self.now in
+    let b = beside_of s.tables in
+    let mid = c.loop-page.self in
+    let store = g.S.Store.means in
+    let so_far = c.loop-page.invariant in
+    let near = near_later store s.store mid.store b (beside_of mid.tables) c.args.fork c.loop-page.page mid.kept so_far.0 c.requires.lives c.requires.near in (
+      empties_empty store s.store mid.store b (beside_of mid.tables) c.args.fork c.loop-page.page mid.kept (g.met.S.Store.sound mid.store).pages c.loop-page-test.true near.0.0 near.0.1 near.1 so_far.0 (c.is_empty.ensures (search rules)),
+      frees_empty store s.store mid.store b (beside_of mid.tables) c.args.fork c.loop-page.page so_far.1,
     )
 
 pub returns-clause-empties : goal.returns-clause-empties
