@@ -3,7 +3,7 @@ use Rattle.std.proofs.Common.{◌≡◌, ℕ, List, [], Option, None, Some, refl
 use Rattle.std.specs.Prelude.{Result, Ok, Err, OnErr, OnOk, is_some}
 use Rattle.std.specs.FinMap as fin
 use Rattle.file_tables.specs.Tables.{open_of}
-use Rattle.machine_events.specs.Giving.{TookOver}
+use Rattle.event_items.specs.Giving.{TookOver}
 use Rattle.monitor_calls.proofs.Lookups.{job_found, job_missing}
 use Rattle.monitor_calls.specs.declared.job.Job.{Job}
 use Rattle.monitor_calls.specs.Jobs.{job_at}

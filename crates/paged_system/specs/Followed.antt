@@ -12,6 +12,10 @@ use Rattle.job_sched.specs.Schedules.{Schedule}
 use Rattle.event_deeds.specs.declared.answer.Showing.{Showing}
 use Rattle.monitor_core.specs.Reaching.{BeginsJob, ChangesJob, EventReaches}
 use Rattle.monitor_typing.specs.Reaching.{PartReaches}
+use Rattle.step_shown.specs.declared.reach.Reach.{Reach}
+use Rattle.step_shown.specs.declared.runner.Runner.{Runner}
+use Rattle.step_shown.specs.Reaching.{Reaches}
+use Rattle.step_shown.specs.Runners.{IsRunner}
 use Rattle.turn_forms.specs.Turns.{moved}
 
 -- the lists had those that could run among forks that became these
@@ -48,3 +52,11 @@ IsPartNowhere shown = (old new : ForkMap) → PartReaches shown old new → new 
 -- the lists have moved as the forks have
 abbrev pub HaveMoved : ForkMap → ForkMap → ForkLists → ForkLists → Type 0
 HaveMoved before after l behind = behind.sched ≡ moved (moves before after) l.sched
+
+-- the lists had the forks that could run before a row of units of one, which has reached so far
+pub record RowEnded (l : ForkLists) (now : PlainTree) (who : Runner) (reach : Reach) : Type 0 where
+  pub old : PlainTree
+  pub trees : IsTree old
+  pub tied : AreTied old.forks l
+  pub runner : IsRunner old who
+  pub reaches : Reaches reach who.fork old now

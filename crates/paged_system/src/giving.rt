@@ -1,14 +1,14 @@
 // What was shown, given to a taker.
 ghost use Rattle.std.specs.Prelude.{[]};
 ghost use Rattle.event_deeds.specs.Showings.{showing_items};
-ghost use Rattle.machine_events.specs.Giving.{TookOver};
+ghost use Rattle.event_items.specs.Giving.{TookOver};
 ghost use Rattle.monitor_core.specs.Systems.{FitsPages, state_of};
 ghost use Rattle.page_waits.specs.Systems.{FitsShowing};
 ghost use Rattle.paged_system.specs.Paging.{gives_in};
 
 use crate::paged::Paged;
 use event_deeds::Showing;
-use machine_events::{give_echo, give_reply, give_told};
+use event_items::{give_echo, give_reply, give_told};
 use outside::Failed;
 use page_contracts::Pages;
 use script_texts::Taker;

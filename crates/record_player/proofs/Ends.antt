@@ -9,7 +9,7 @@ use Rattle.script_texts.specs.Taker.{max_steps}
 use Rattle.page_contracts.specs.DrumWords.{DrumWords}
 use Rattle.plain_model.specs.Run.{state_after}
 use Rattle.monitor_core.specs.Systems.{FitsPages, state_of}
-use Rattle.machine_events.specs.Giving.{Standing}
+use Rattle.event_items.specs.Giving.{Standing}
 use Rattle.outside.specs.Faults.{Rose}
 use Rattle.record_reader.specs.Order.{AreRecordLines, turns_on}
 use Rattle.record_reader.specs.Reader.{HasRead, line_given, verdict_given}

@@ -17,9 +17,9 @@ use Rattle.step_shown.specs.declared.reply.Reply.{Reply}
 use Rattle.step_shown.specs.Replies.{reply_items}
 use Rattle.monitor_core.specs.declared.system.System.{System}
 use Rattle.monitor_core.specs.Systems.{CanDo, Did, DidAll, FitsPages, state_of}
-use Rattle.machine_events.specs.Giving.{Standing, TookOver}
-use Rattle.machine_events.proofs.Gave.{gave_none, gave_append, gave_cut}
-use Rattle.machine_events.proofs.StepDid.{did_one}
+use Rattle.event_items.specs.Giving.{Standing, TookOver}
+use Rattle.event_items.proofs.Gave.{gave_none, gave_append, gave_cut}
+use Rattle.record_player.proofs.Runnable.{did_one}
 use Rattle.record_player.specs.declared.stage.Stage.{Stage}
 use Rattle.record_player.specs.Stages.{Gives, CutIn, PlayedEvent}
 use Rattle.record_player.proofs.Entries.{legal_unmarked}

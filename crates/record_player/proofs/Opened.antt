@@ -13,7 +13,7 @@ use Rattle.page_contracts.specs.DrumWords.{DrumWords}
 use Rattle.page_contracts.specs.Stores.{FitsHomes, free}
 use Rattle.flat_pages.proofs.StoredPlaces.{zeros_fit}
 use Rattle.monitor_core.specs.declared.system.System.{System}
-use Rattle.machine_events.specs.Giving.{Standing}
+use Rattle.event_items.specs.Giving.{Standing}
 use Rattle.record_reader.specs.declared.reader.NextStep.{NextStep}
 use Rattle.record_player.specs.declared.replay_end.ReplayEnd.{ReplayEnd}
 use Rattle.record_player.specs.declared.replay_end.ReplayEnd.TheVariants.{Done, Memory}

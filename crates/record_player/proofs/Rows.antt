@@ -4,7 +4,7 @@ use Rattle.std.specs.Prelude.{Result, Ok, Err, OnErr}
 use Rattle.std.proofs.lemmas.List.{replicate-append-replicate}
 use Rattle.outside.specs.Faults.{Rose}
 use Rattle.script_texts.specs.declared.event.Step.{Step}
-use Rattle.machine_events.specs.Giving.{Standing}
+use Rattle.event_items.specs.Giving.{Standing}
 use Rattle.record_player.specs.declared.halt.Halt.{Halt}
 use Rattle.record_player.specs.declared.halt.Halt.TheVariants.{Illegal, Fault}
 use Rattle.record_player.specs.declared.stage.Stage.{Stage}

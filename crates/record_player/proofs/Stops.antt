@@ -4,7 +4,7 @@ use Rattle.std.proofs.lemmas.List.{length-replicate}
 use Rattle.script_texts.specs.declared.event.Step.{Step}
 use Rattle.script_texts.specs.declared.event.Step.TheVariants.{Outer, Unit as AUnit, Idle}
 use Rattle.script_texts.specs.RecordLines.{run}
-use Rattle.machine_events.specs.Giving.{Standing}
+use Rattle.event_items.specs.Giving.{Standing}
 use Rattle.record_reader.specs.Order.{FitsCount, turns_on}
 use Rattle.record_reader.specs.declared.reader.NextStep.{NextStep}
 use Rattle.record_reader.specs.declared.reader.NextStep.TheVariants as answers

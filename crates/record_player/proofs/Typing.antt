@@ -16,10 +16,10 @@ use Rattle.monitor_calls.specs.declared.job.Job.{Job}
 use Rattle.monitor_calls.specs.Jobs.{job_at}
 use Rattle.monitor_core.specs.declared.system.System.{System}
 use Rattle.monitor_core.specs.Systems.{FitsPages, state_of}
-use Rattle.machine_events.specs.Giving.{Standing, StaysTaker, Takes}
-use Rattle.machine_events.proofs.Given.{on_err, taker_failed, taker_then, takes_then}
-use Rattle.machine_events.proofs.GivenParts.{no_ok}
-use Rattle.machine_events.proofs.TypedIn.{types_all}
+use Rattle.event_items.specs.Giving.{Standing, StaysTaker, Takes}
+use Rattle.event_items.proofs.Given.{on_err, taker_failed, taker_then, takes_then}
+use Rattle.event_items.proofs.GivenParts.{no_ok}
+use Rattle.record_player.proofs.TypedIn.{types_all}
 use Rattle.record_player.specs.declared.stage.Stage.{Stage}
 use Rattle.record_player.specs.Stages.{CutIn, Gives, PlayedEvent, TypedOut}
 

@@ -15,8 +15,8 @@ use Rattle.plain_model.specs.TypeEvents.{typed_all}
 use Rattle.page_contracts.specs.DrumWords.{DrumWords}
 use Rattle.monitor_core.specs.declared.system.System.{System}
 use Rattle.monitor_core.specs.Systems.{FitsPages, state_of}
-use Rattle.machine_events.specs.Giving.{Standing, StaysTaker, Takes}
-use Rattle.machine_events.specs.Outcome.{Gave, GaveCut}
+use Rattle.event_items.specs.Giving.{Standing, StaysTaker, Takes}
+use Rattle.event_items.specs.Outcome.{Gave, GaveCut}
 use Rattle.record_reader.specs.Order.{AreRecordLines}
 use Rattle.record_reader.specs.Reader.{line_given}
 use Rattle.record_reader.specs.Versions.{size_told}

@@ -8,7 +8,7 @@ ghost use Rattle.monitor_core.specs.Systems.{IsAtOnce};
 ghost use Rattle.record_player.specs.Stages.{PlayedEvent, TypedOut};
 
 use crate::stage::Stage;
-use machine_events::{give_all, give_echo};
+use event_items::{give_all, give_echo};
 use machine_names::{Tty, TypedText};
 use monitor_typing::type_one;
 use outside::Failed;

@@ -7,7 +7,7 @@ ghost use Rattle.record_player.specs.Stages.{PlayedRow, PlayedSteps};
 
 use crate::halt::Halt;
 use crate::stage::Stage;
-use machine_events::give_all;
+use event_items::give_all;
 use machine_names::ForkName;
 use page_contracts::Pages;
 use script_texts::{Step, Taker};

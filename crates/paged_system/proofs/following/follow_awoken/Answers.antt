@@ -1,7 +1,7 @@
 use Rattle.std.proofs.Common.{IsSome, ◌∙◌, sym, subst}
 use Rattle.std.specs.FinMap as map
 use Rattle.plain_model.specs.Trees.{PlainTree}
-use Rattle.machine_events.proofs.ListsTied.{awoken_live, can_follow_all, tied_all}
+use Rattle.paged_system.proofs.ListsTied.{awoken_live, can_follow_all, tied_all}
 use Rattle.paged_system.proofs.Awoken.{runs_on, slots_on, waits_on}
 use Rattle.paged_system.proofs.following.follow_awoken.Goals as goal
 

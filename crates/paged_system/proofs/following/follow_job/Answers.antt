@@ -1,6 +1,6 @@
 use Rattle.std.proofs.Common.{◌∙◌, sym}
 use Rattle.fork_calls.proofs.OtherRuns.{runs_other}
-use Rattle.machine_events.proofs.ListsTied.{can_follow, tied_followed}
+use Rattle.paged_system.proofs.ListsTied.{can_follow, tied_followed}
 use Rattle.paged_system.proofs.following.follow_job.Goals as goal
 
 pub follow-requires-clause-can : goal.follow-requires-clause-can

@@ -1,7 +1,7 @@
 use Rattle.std.proofs.Common.{◌∙◌, ap, sym, subst}
 use Rattle.machine_names.specs.Bounds.{IsTerminal}
 use Rattle.fork_calls.proofs.OtherRuns.{body_runs, runs_other}
-use Rattle.machine_events.proofs.ListsTied.{can_follow, tied_followed, tied_own}
+use Rattle.paged_system.proofs.ListsTied.{can_follow, tied_followed, tied_own}
 use Rattle.plain_model.specs.Forks.{runs_in}
 use Rattle.plain_model.specs.Trees.{PlainTree}
 use Rattle.step_shown.specs.declared.reach.Reach.{Reach}

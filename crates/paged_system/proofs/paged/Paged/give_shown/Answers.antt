@@ -2,8 +2,8 @@ use Rattle.std.proofs.Common.{[], sym, subst}
 use Rattle.event_deeds.specs.Showings.{showing_items}
 use Rattle.event_deeds.specs.declared.answer.Showing.{Showing}
 use Rattle.event_deeds.specs.declared.answer.Showing.TheVariants.{Echo, Told}
-use Rattle.machine_events.specs.Giving.{TookOver}
-use Rattle.machine_events.proofs.Given.{over_drums}
+use Rattle.event_items.specs.Giving.{TookOver}
+use Rattle.event_items.proofs.Given.{over_drums}
 use Rattle.monitor_core.specs.Systems.{FitsPages, state_of}
 use Rattle.paged_system.specs.Paging.{gives_in}
 use Rattle.paged_system.proofs.paged.Paged.give_shown.Goals as goal

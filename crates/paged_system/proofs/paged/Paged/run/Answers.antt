@@ -7,7 +7,7 @@ use Rattle.job_sched.specs.Schedules.{size}
 use Rattle.job_sched.specs.Ties.{WaitsLess}
 use Rattle.machine_names.specs.Bounds.{IsForkName}
 use Rattle.machine_names.specs.declared.names.ForkName.{ForkName}
-use Rattle.machine_events.proofs.ListsTied.{fewer_row}
+use Rattle.paged_system.proofs.ListsTied.{fewer_row}
 use Rattle.monitor_core.specs.Systems.{DidAll, Waits}
 use Rattle.page_contracts.specs.Pages.{MayLose}
 use Rattle.plain_model.specs.Moves.{moves}

@@ -2,7 +2,7 @@ use Rattle.std.proofs.Common.{◌+◌, sym, ap, subst, arith}
 use Rattle.script_texts.proofs.Takers.{onward_nil}
 use Rattle.monitor_core.specs.Systems.{IsWithin}
 use Rattle.monitor_core.proofs.Systems.{within_later}
-use Rattle.machine_events.proofs.Runnable.{runner_fits}
+use Rattle.record_player.proofs.Runnable.{runner_fits}
 use Rattle.record_player.proofs.Gone.{gives_none, units_cut, units_given}
 use Rattle.record_player.proofs.stage.Stage.row.Goals as goal
 

@@ -6,7 +6,7 @@ use Rattle.step_shown.specs.declared.reply.Reply.TheVariants.{One}
 use Rattle.monitor_calls.specs.Jobs.{job_at}
 use Rattle.monitor_core.proofs.EventDid.{missing}
 use Rattle.monitor_core.proofs.JobDid.{did_still}
-use Rattle.machine_events.proofs.TypedIn.{has_one, types_nothing}
+use Rattle.record_player.proofs.TypedIn.{has_one, types_nothing}
 use Rattle.record_player.specs.Stages.{TypedOut}
 use Rattle.record_player.proofs.Gone.{event_played}
 use Rattle.record_player.proofs.Typing.{text_cut, text_played}

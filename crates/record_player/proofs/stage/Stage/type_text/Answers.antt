@@ -5,10 +5,10 @@ use Rattle.script_texts.specs.Taker.{GoesOn}
 use Rattle.script_texts.proofs.Takers.{goes_on_append, goes_on_nil, onward_nil, onward_then}
 use Rattle.step_shown.specs.Echoes.{echo_items}
 use Rattle.monitor_core.specs.Systems.{state_of}
-use Rattle.machine_events.specs.Giving.{Takes}
-use Rattle.machine_events.proofs.Given.{on_err, takes_part, takes_then}
-use Rattle.machine_events.proofs.GivenParts.{no_ok}
-use Rattle.machine_events.proofs.Typed.{more_items, more_state, rest, split_items, typed_none}
+use Rattle.event_items.specs.Giving.{Takes}
+use Rattle.event_items.proofs.Given.{on_err, takes_part, takes_then}
+use Rattle.event_items.proofs.GivenParts.{no_ok}
+use Rattle.record_player.proofs.Typed.{more_items, more_state, rest, split_items, typed_none}
 use Rattle.record_player.proofs.stage.Stage.type_text.Goals as goal
 
 pub loop-code-init : goal.loop-code-init
