@@ -361,26 +361,12 @@ impl Frames {
         ensures moving { result ≡ is_moving self.old f.0 }
         ensures whole { IsCore self.old }
     {
-        match self.seats[f.0 as usize] {
-            Some(tenant) => {
-                self.renew(f, tenant);
-                tenant.in_transfer
-            }
-            None => false,
-        }
-    }
-
-    // A use of a frame that is taken.
-    #[inline(always)]
-    fn renew(&mut self, f: FrameId, tenant: Tenant)
-        requires { seat_of self.old f.0 ≡ Some tenant }
-        ensures { self.new ≡ used self.old f.0 }
-    {
-        let renewed = Tenant {
-            age: self.uses,
-            ..tenant
+        let Some(tenant) = &mut self.seats[f.0 as usize] else {
+            return false;
         };
-        self.seats[f.0 as usize] = Some(renewed);
+        let is_moving = tenant.is_moving();
+        tenant.age = self.uses;
         self.uses = self.uses.saturating_add(1);
+        is_moving
     }
 }

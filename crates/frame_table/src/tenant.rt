@@ -1,5 +1,5 @@
 // What a frame that is taken is taken by, and holds of it.
-ghost use Rattle.std.specs.Prelude.{◌≡◌};
+ghost use Rattle.std.specs.Prelude.{◌≡◌, ◌<◌, ◌^◌};
 ghost use Rattle.frame_table.specs.Core.{is_kept, new_tenant};
 ghost use Rattle.frame_table.specs.Seats.{leaving_age};
 
@@ -32,6 +32,15 @@ impl Tenant {
             pins: 0,
             in_transfer: false,
         }
+    }
+
+    // Whether a transfer of the frame is queued.
+    #[inline(always)]
+    pub(crate) fn is_moving(self) -> bool
+        ensures is { result ≡ self.in_transfer }
+        ensures age { self.age < 2 ^ 64 }
+    {
+        self.in_transfer
     }
 
     // Whether a hold or a pin keeps the page in its frame.
