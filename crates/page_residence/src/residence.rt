@@ -185,11 +185,12 @@ impl Residence {
         self.frames.put(f, at, word.value());
     }
 
-    /// A use of a frame. False only where no transfer of it is queued.
+    /// A use of a frame. Answers whether a transfer of it is queued.
     #[inline(always)]
     pub fn touch(&mut self, f: FrameId) -> bool
         requires { f.0 < length self.old.frames.seats }
         ensures idle { result ≡ false → transfer_of f.0 self.old.queue.queued ≡ None }
+        ensures moving { result ≡ true → IsSome (transfer_of f.0 self.old.queue.queued) }
         ensures seats { SeatsStay self.old.frames.seats self.new.frames.seats }
         ensures renews { IsRenewed f.0 self.old.frames.seats self.new.frames.seats self.old.frames.uses self.new.frames.uses }
         ensures words { self.new.frames.words ≡ self.old.frames.words }
