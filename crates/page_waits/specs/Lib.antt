@@ -4,6 +4,7 @@ pub mod Waits
 pub mod Holding
 pub mod Left
 pub mod Acts
+pub mod Transfers
 pub mod Idling
 pub mod Machines
 pub mod Told

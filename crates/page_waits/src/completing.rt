@@ -1,15 +1,17 @@
 // A transfer ends.
-ghost use Rattle.std.specs.Prelude.{◌≡◌, ◌+◌, ◌≤◌, ℕ, [], None, drop};
+ghost use Rattle.std.specs.Prelude.{◌≡◌, ◌+◌, ◌≤◌, ◌∷◌, ℕ, [], None, drop, map, if◌then◌else◌};
 ghost use Rattle.outside.specs.Faults.{Rose};
 ghost use Rattle.event_deeds.specs.declared.deed.Deed.{Deed as ADeed};
 ghost use Rattle.page_contracts.specs.declared.answers.Need.{Need as ANeed};
 ghost use Rattle.std.specs.Prelude.{Option as AnOption};
 ghost use Rattle.page_waits.specs.Acts.{Quiet, told_work};
-ghost use Rattle.page_waits.specs.Idling.{Moved};
+ghost use Rattle.page_waits.specs.Transfers.{Moved, MovesAtMost};
 ghost use Rattle.plain_model.specs.Forks.{ForkMap as AForkMap};
 ghost use Rattle.fork_lists.specs.Ties.{AreTied};
 ghost use Rattle.job_sched.specs.Schedules.{arrived};
+ghost use Rattle.page_contracts.specs.Stores.{most_held, need_of};
 ghost use Rattle.page_contracts.specs.declared.store.TheConstants.{CONSOLE_HOLDER};
+ghost use Rattle.page_waits.specs.Holding.{comes_for, held_with};
 ghost use Rattle.page_waits.specs.Waits.{AreAwaited, AreStanding, the_lists, waits_with, woken};
 
 use crate::System;
@@ -42,6 +44,7 @@ pub fn complete<S: System, D: Drum>(
     ensures moved { (n : ANeed) → result ≡ Completed.Done n → Moved (record { reads = D.read_count; writes = D.write_count }) 1 drum.old drum.new }
     ensures reads { D.read_count drum.old ≤ D.read_count drum.new }
     ensures writes { D.write_count drum.old ≤ D.write_count drum.new }
+    ensures bounded { MovesAtMost (record { reads = D.read_count; writes = D.write_count }) 1 drum.old drum.new }
     ensures stays { result ≡ Completed.Nothing → drum.new ≡ drum.old }
     ensures system { result ≡ Completed.Nothing → system.new ≡ system.old }
     ensures tied { (forks : AForkMap) → AreTied forks lists.old → AreTied forks lists.new }
@@ -53,6 +56,8 @@ pub fn complete<S: System, D: Drum>(
     ensures lists { result ≡ Completed.Nothing → lists.new ≡ lists.old }
     ensures limit { S.means.limit system.new ≡ S.means.limit system.old }
     ensures frames { S.means.store.frames system.new ≡ S.means.store.frames system.old }
+    ensures tells { (n : ANeed) → result ≡ Completed.Done n → map need_of (S.means.store.queue system.old) ≡ n ∷ map need_of (S.means.store.queue system.new) }
+    ensures holds { (n : ANeed) (k : ℕ) → result ≡ Completed.Done n → S.means.store.holds system.new k ≡ (if comes_for n (waits_with console (the_lists.waiting lists.old) k) then held_with (most_held k) n (S.means.store.holds system.old k) else S.means.store.holds system.old k) }
 {
     lists.sound();
     match system.complete(drum) {

@@ -25,6 +25,7 @@ pub fn held_members<S: System>(system: &S, lists: &ForkLists) -> Holders
     requires owned { AreOwned S.means the_lists system.now lists.now }
     ensures all { AreAll result (S.means.store.holds system.now) }
     ensures members { AreMembers result (the_lists.member lists.now) }
+    ensures held { (k : ℕ) (f : AForkName) → holder_at result k ≡ Some f → S.means.store.holds system.now k ≢ [] }
 {
     lists.sound();
     let mut forks = [None; SEATS];

@@ -7,7 +7,7 @@ ghost use Rattle.page_homes.specs.declared.homes.Home.{Home as AHome};
 ghost use Rattle.plain_model.specs.Forks.{ForkMap as AForkMap};
 ghost use Rattle.page_waits.specs.Holding.{comes_for, held_more, held_with, room_in};
 ghost use Rattle.page_waits.specs.Systems.{StaysState};
-ghost use Rattle.page_waits.specs.Told.{AllTold};
+ghost use Rattle.page_waits.specs.Told.{AllTold, all_arrived};
 ghost use Rattle.page_waits.specs.Waits.{AreAwaited, StaysSeated, awaits, the_lists, waits_with};
 
 use crate::System;
@@ -23,6 +23,7 @@ pub fn tell<S: System>(system: &mut S, lists: &mut ForkLists)
     ensures told { S.means.store.untold system.new ≡ [] }
     ensures state { StaysState S.means system.old system.new }
     ensures each { AllTold lists.old.sched lists.new.sched }
+    ensures all { lists.new.sched ≡ all_arrived (S.means.store.untold system.old) lists.old.sched }
     ensures seated { StaysSeated the_lists lists.old lists.new }
     ensures tied { (forks : AForkMap) → AreTied forks lists.old → AreTied forks lists.new }
     ensures holds { S.means.store.holds system.new ≡ S.means.store.holds system.old }

@@ -15,6 +15,7 @@ ghost use Rattle.page_waits.specs.Machines.{IsBare, KeepsMarks, auto, frames, li
 ghost use Rattle.page_waits.specs.Systems.{StaysTold};
 ghost use Rattle.event_deeds.specs.Deeds.{IsNext};
 ghost use Rattle.page_waits.specs.Told.{AllTold, MovesSilently, TookDeed};
+ghost use Rattle.page_waits.specs.Transfers.{MovesAtMost, most_transfers};
 ghost use Rattle.page_waits.specs.Waits.{AreAwaited, the_lists, waits_with, woken};
 ghost use Rattle.event_deeds.specs.declared.answer.Answer.{Answer as AnAnswer};
 
@@ -82,6 +83,7 @@ impl<S: System> Machine<S> {
         ensures size { D.size drum.new ≡ D.size drum.old }
         ensures reads { D.read_count drum.old ≤ D.read_count drum.new }
         ensures writes { D.write_count drum.old ≤ D.write_count drum.new }
+        ensures bounded { MovesAtMost (record { reads = D.read_count; writes = D.write_count }) 1 drum.old drum.new }
         ensures quiet { (w : AnOption ANeed) (x : AnOption ADeed) → result ≡ Ok w → Quiet S.means the_lists D.held x (Some need) w 1 self.old.system self.new.system self.old.lists self.new.lists drum.old drum.new }
         ensures fewer { (w : AnOption ANeed) (x : ADeed) → result ≡ Ok w → told_work S.means the_lists x w self.new.system self.new.lists + 1 ≤ told_work S.means the_lists x (Some need) self.old.system self.old.lists }
         ensures silent { (w : AnOption ANeed) → result ≡ Ok w → MovesSilently self.old.lists.sched self.new.lists.sched }
@@ -117,6 +119,7 @@ impl<S: System> Machine<S> {
         ensures size { D.size drum.new ≡ D.size drum.old }
         ensures reads { D.read_count drum.old ≤ D.read_count drum.new }
         ensures writes { D.write_count drum.old ≤ D.write_count drum.new }
+        ensures bounded { MovesAtMost (record { reads = D.read_count; writes = D.write_count }) most_transfers drum.old drum.new }
         ensures did { (answer : AnAnswer) → result ≡ Ok (Some answer) → DidOver S.means the_lists D.held deed.now answer self.old.system self.new.system drum.old drum.new }
         ensures next { (answer : AnAnswer) → result ≡ Ok (Some answer) → IfSome answer.next IsNext }
         ensures within { (answer : AnAnswer) (n : ℕ) → result ≡ Ok (Some answer) → S.means.within self.old.system n → S.means.within self.new.system (n + entries_of deed.now) }

@@ -1,13 +1,14 @@
 // The look for units: heads of the ready list are planned, and transfers end.
-ghost use Rattle.std.specs.Prelude.{◌≡◌, ◌≢◌, ◌+◌, ◌-◌, ◌<◌, ◌≤◌, ◌^◌, [], ℕ, false, true, None, Ok, IfSome, IfOk, IsOkAnd, IsSomeAnd, MatchOption, OnErr, length, drop};
+ghost use Rattle.std.specs.Prelude.{◌≡◌, ◌≢◌, ◌+◌, ◌-◌, ◌<◌, ◌≤◌, ◌^◌, [], ℕ, false, true, None, Ok, IfSome, IfOk, IsOkAnd, IsSomeAnd, MatchOption, OnErr, length, drop, map, min, ◌∷◌};
 ghost use Rattle.fork_lists.specs.Following.{last_counted};
 ghost use Rattle.fork_lists.specs.Ties.{AreTied};
 ghost use Rattle.job_sched.specs.Schedules.{arrived, heads};
-ghost use Rattle.job_sched.specs.Units.{IsRow, row_ran};
+ghost use Rattle.job_sched.specs.Units.{IsAlone, IsRow, row_ran};
 ghost use Rattle.machine_names.specs.declared.names.ForkName.{ForkName as AForkName};
 ghost use Rattle.machine_names.specs.declared.names.TheConstants.{QUANTUM};
 ghost use Rattle.outside.specs.Faults.{Rose};
 ghost use Rattle.page_contracts.specs.DrumWords.{DrumWords};
+ghost use Rattle.page_contracts.specs.Stores.{need_of};
 ghost use Rattle.page_contracts.specs.declared.answers.Need.{Need as ANeed};
 ghost use Rattle.page_contracts.specs.declared.store.TheConstants.{CONSOLE_HOLDER};
 ghost use Rattle.plain_model.specs.Forks.{ForkMap as AForkMap, IsRunnable};
@@ -16,11 +17,12 @@ ghost use Rattle.turn_forms.specs.Turns.{moved};
 ghost use Rattle.page_waits.specs.Acts.{IdledOver, Quiet, Ran, RanOver, Still, Turned, turns_of};
 ghost use Rattle.page_waits.specs.Calm.{IsRoomy};
 ghost use Rattle.page_waits.specs.Holders.{AreAll, AreReleased, holder_at};
-ghost use Rattle.page_waits.specs.Idling.{IsIdle, Moved};
+ghost use Rattle.page_waits.specs.Idling.{IsIdle};
 ghost use Rattle.page_waits.specs.InCore.{IdledCalmly, IsInCore, RanCalmly, TookCalmly};
 ghost use Rattle.page_waits.specs.Machines.{IsBare, KeepsMarks, auto, frames, limit};
 ghost use Rattle.page_waits.specs.Systems.{StaysState};
 ghost use Rattle.page_waits.specs.Told.{LastCounted, MovesSilently, TookRow, ends_quantum};
+ghost use Rattle.page_waits.specs.Transfers.{Moved, MovesAtMost, most_transfers};
 ghost use Rattle.page_waits.specs.Waits.{AreAwaited, AreStanding, IsHead, the_lists};
 ghost use Rattle.page_waits.specs.declared.turn.Done.{Done as ADone};
 
@@ -36,7 +38,7 @@ use machine_names::ForkName;
 use outside::{Drum, Failed};
 use page_contracts::Completed;
 
-/// So many transfers at most end in one entry.
+/// So many transfers at most end before an entry of a run is a unit or idle, and before a POKE or an EXAMINE is answered.
 pub(crate) const MOST_TRANSFERS: u64 = 4_294_967_296;
 
 // How many units the head may run in a row, where so many are left of a RUN: while a transfer is queued no more than are left of its quantum, since one
@@ -45,6 +47,9 @@ fn most_units<S: System>(system: &S, lists: &ForkLists, left: u32) -> u32
     requires head { 0 < length lists.now.sched.ready }
     requires some { 1 ≤ left }
     ensures moving { S.means.store.queue system.now ≢ [] → lists.now.sched.used + result ≤ QUANTUM }
+    ensures queued { S.means.store.queue system.now ≢ [] → result ≡ min left (QUANTUM - lists.now.sched.used) }
+    ensures alone { S.means.store.queue system.now ≡ [] → IsAlone lists.now.sched → result ≡ left }
+    ensures quantum { S.means.store.queue system.now ≡ [] → (IsAlone lists.now.sched → ⊥) → result ≡ min left (QUANTUM - lists.now.sched.used) }
     ensures row { IsRow result lists.now.sched }
     ensures most { result ≤ left }
     ensures some { 1 ≤ result }
@@ -179,6 +184,7 @@ impl<S: System> Machine<S> {
         ensures size { D.size drum.new ≡ D.size drum.old }
         ensures reads { D.read_count drum.old ≤ D.read_count drum.new }
         ensures writes { D.write_count drum.old ≤ D.write_count drum.new }
+        ensures bounded { MovesAtMost (record { reads = D.read_count; writes = D.write_count }) 1 drum.old drum.new }
         ensures done { (n : ANeed) → result ≡ Completed.Done n → Quiet S.means the_lists D.held None None None 1 self.old.system self.new.system self.old.lists self.new.lists drum.old drum.new }
         ensures moved { (n : ANeed) → result ≡ Completed.Done n → Moved (record { reads = D.read_count; writes = D.write_count }) 1 drum.old drum.new }
         ensures told { (n : ANeed) → result ≡ Completed.Done n → self.new.lists.sched ≡ arrived self.old.lists.sched n }
@@ -191,6 +197,7 @@ impl<S: System> Machine<S> {
         ensures stays { result ≡ Completed.Nothing → drum.new ≡ drum.old }
         ensures bare { IsBare self.old → IsBare self.new }
         ensures marks { KeepsMarks self.old self.new }
+        ensures tells { (n : ANeed) → result ≡ Completed.Done n → map need_of (S.means.store.queue self.old.system) ≡ n ∷ map need_of (S.means.store.queue self.new.system) }
     {
         complete(&mut self.system, &mut self.lists, None, drum)
     }
@@ -206,6 +213,7 @@ impl<S: System> Machine<S> {
         ensures size { D.size drum.new ≡ D.size drum.old }
         ensures reads { D.read_count drum.old ≤ D.read_count drum.new }
         ensures writes { D.write_count drum.old ≤ D.write_count drum.new }
+        ensures bounded { MovesAtMost (record { reads = D.read_count; writes = D.write_count }) most_transfers drum.old drum.new }
         ensures idle { result ≡ Ok None → IsIdle S.means the_lists (record { reads = D.read_count; writes = D.write_count }) (auto self.old) self.new.system self.new.lists drum.old drum.new }
         ensures idled { (count : ℕ) → result ≡ Ok None → IdledOver S.means the_lists D.held (auto self.old) count self.old.system self.new.system drum.old drum.new }
         ensures did { IfOk result (λ came. IfSome came (λ u. RanOver S.means the_lists D.held u.fork u.progress self.old.system self.new.system drum.old drum.new)) }
@@ -245,6 +253,7 @@ impl<S: System> Machine<S> {
         ensures some { 1 ≤ result }
         ensures off { auto self.now ≡ false → result ≡ most }
         ensures still { S.means.store.queue self.now.system ≡ [] → result ≡ most }
+        ensures moving { auto self.now ≡ true → S.means.store.queue self.now.system ≢ [] → result ≡ 1 }
     {
         if self.auto && self.system.is_moving() {
             1
@@ -266,6 +275,7 @@ impl<S: System> Machine<S> {
         ensures size { D.size drum.new ≡ D.size drum.old }
         ensures reads { D.read_count drum.old ≤ D.read_count drum.new }
         ensures writes { D.write_count drum.old ≤ D.write_count drum.new }
+        ensures bounded { MovesAtMost (record { reads = D.read_count; writes = D.write_count }) most_transfers drum.old drum.new }
         ensures turned { IfOk result (Turned S.means the_lists D.held (auto self.old) self.old.system self.new.system drum.old drum.new) }
         ensures row { (u : ADone) → result ≡ Ok (Turn.Ran u) → TookRow u.fork u.progress.count u.ended (S.means.tree self.old.system).forks (S.means.tree self.new.system).forks self.old.lists.sched self.new.lists.sched }
         ensures released { (u : ADone) → result ≡ Ok (Turn.Ran u) → AreReleased (the_lists.member self.old.lists) (the_lists.member self.new.lists) (S.means.store.holds self.new.system) }
@@ -279,6 +289,9 @@ impl<S: System> Machine<S> {
         ensures frames { frames self.new ≡ frames self.old }
         ensures mark { auto self.new ≡ auto self.old }
         ensures calm { (frames : ℕ) (d : DrumWords) → S.means.fits self.old.system d → IsInCore S.means frames self.old.system self.old.lists → IsRoomy frames (S.means.plain self.old.system d) → IsOkAnd result (λ turn. TookCalmly S.means frames turn self.old.system self.new.system self.old.lists self.new.lists) }
+        ensures all_off { (n : ℕ) → result ≡ Ok (Turn.Idle n) → auto self.old ≡ false → n ≡ most }
+        ensures all_still { (n : ℕ) → result ≡ Ok (Turn.Idle n) → S.means.store.queue self.new.system ≡ [] → n ≡ most }
+        ensures one_moving { (n : ℕ) → result ≡ Ok (Turn.Idle n) → auto self.old ≡ true → S.means.store.queue self.new.system ≢ [] → n ≡ 1 }
     {
         match self.look(most, drum)? {
             Some(u) => Ok(Turn::Ran(u)),

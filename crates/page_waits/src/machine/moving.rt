@@ -1,12 +1,13 @@
 // What a script asks of frames and transfers, and the end of a quantum.
-ghost use Rattle.std.specs.Prelude.{◌≡◌, ◌≤◌, ◌&&◌, [], ℕ, IsOkAnd, None, OnErr, OnOk, drop, false, true};
+ghost use Rattle.std.specs.Prelude.{◌≡◌, ◌≤◌, ◌&&◌, [], ℕ, IsOk, IsOkAnd, None, OnErr, OnOk, drop, false, map, take, true};
 ghost use Rattle.outside.specs.Faults.{Rose};
-ghost use Rattle.page_contracts.specs.Stores.{Evicts};
+ghost use Rattle.page_contracts.specs.Stores.{Evicts, need_of};
 ghost use Rattle.page_waits.specs.Acts.{Quiet};
 ghost use Rattle.page_waits.specs.InCore.{IsInCore};
 ghost use Rattle.page_waits.specs.Machines.{IsBare, KeepsMarks, auto, limit};
 ghost use Rattle.page_waits.specs.Systems.{StaysState};
-ghost use Rattle.page_waits.specs.Told.{MovesSilently};
+ghost use Rattle.page_waits.specs.Told.{MovesSilently, all_arrived};
+ghost use Rattle.page_waits.specs.Transfers.{MovesAtMost};
 ghost use Rattle.page_waits.specs.Waits.{the_lists};
 
 use crate::System;
@@ -36,6 +37,7 @@ impl<S: System> Machine<S> {
         ensures size { D.size drum.new ≡ D.size drum.old }
         ensures reads { D.read_count drum.old ≤ D.read_count drum.new }
         ensures writes { D.write_count drum.old ≤ D.write_count drum.new }
+        ensures bounded { MovesAtMost (record { reads = D.read_count; writes = D.write_count }) n drum.old drum.new }
         ensures quiet { OnOk result (Quiet S.means the_lists D.held None None None 0 self.old.system self.new.system self.old.lists self.new.lists drum.old drum.new) }
         ensures oldest { OnOk result (S.means.store.queue self.new.system ≡ drop n (S.means.store.queue self.old.system)) }
         ensures silent { OnOk result (MovesSilently self.old.lists.sched self.new.lists.sched) }
@@ -45,6 +47,7 @@ impl<S: System> Machine<S> {
         ensures lists { S.means.store.queue self.old.system ≡ [] → self.new.lists ≡ self.old.lists }
         ensures drum { S.means.store.queue self.old.system ≡ [] → drum.new ≡ drum.old }
         ensures core { (frames : ℕ) → IsInCore S.means frames self.old.system self.old.lists → IsOkAnd result (λ done. IsInCore S.means frames self.new.system self.new.lists) }
+        ensures told { OnOk result (self.new.lists.sched ≡ all_arrived (take n (map need_of (S.means.store.queue self.old.system))) self.old.lists.sched) }
     {
         for _k in 0..n {
             match self.complete(drum) {
@@ -74,6 +77,7 @@ impl<S: System> Machine<S> {
         ensures size { D.size drum.new ≡ D.size drum.old }
         ensures reads { D.read_count drum.old ≤ D.read_count drum.new }
         ensures writes { D.write_count drum.old ≤ D.write_count drum.new }
+        ensures bounded { MovesAtMost (record { reads = D.read_count; writes = D.write_count }) 1 drum.old drum.new }
         ensures quiet { OnOk result (Quiet S.means the_lists D.held None None None 0 self.old.system self.new.system self.old.lists self.new.lists drum.old drum.new) }
         ensures ended { (ended && auto self.old) ≡ true → OnOk result (S.means.store.queue self.new.system ≡ drop 1 (S.means.store.queue self.old.system)) }
         ensures still { (ended && auto self.old) ≡ false → drum.new ≡ drum.old }
@@ -84,6 +88,9 @@ impl<S: System> Machine<S> {
         ensures lists { S.means.store.queue self.old.system ≡ [] → self.new.lists ≡ self.old.lists }
         ensures drum { S.means.store.queue self.old.system ≡ [] → drum.new ≡ drum.old }
         ensures core { (frames : ℕ) → IsInCore S.means frames self.old.system self.old.lists → IsOkAnd result (λ done. IsInCore S.means frames self.new.system self.new.lists) }
+        ensures told { (ended && auto self.old) ≡ true → OnOk result (self.new.lists.sched ≡ all_arrived (take 1 (map need_of (S.means.store.queue self.old.system))) self.old.lists.sched) }
+        ensures ok { (ended && auto self.old) ≡ false → IsOk result }
+        ensures same { (ended && auto self.old) ≡ false → self.new ≡ self.old }
     {
         if ended && self.auto {
             self.transfers(1, drum)

@@ -1,10 +1,10 @@
-use Rattle.std.proofs.Common.{◌≡◌, ◌+◌, ◌≤◌, ℕ, List, cond, None, drop, arith, subst, ap, refl, sym, ◌∙◌, inl, inr}
+use Rattle.std.proofs.Common.{◌≡◌, ◌+◌, ◌≤◌, ℕ, List, ◌∷◌, cond, map, None, drop, arith, subst, ap, refl, sym, ◌∙◌, inl, inr}
 use Rattle.page_contracts.specs.declared.answers.Need.TheVariants.{Page, Frame}
 use Rattle.page_contracts.specs.declared.answers.Need.{Need}
 use Rattle.page_contracts.specs.declared.store.Completed.{Completed}
 use Rattle.page_contracts.specs.declared.store.Completed.TheVariants.{Done}
 use Rattle.page_waits.specs.Acts.{Quiet, told_work}
-use Rattle.page_contracts.specs.Stores.{most_held}
+use Rattle.page_contracts.specs.Stores.{Transfer, most_held, need_of}
 use Rattle.page_waits.specs.Holding.{comes_for, held_with}
 use Rattle.page_waits.specs.Waits.{AreAwaited, AreStanding, waits_with, woken, the_lists}
 use Rattle.page_waits.proofs.Awaiting.{standing_ended, standing_stored, awaited_ended, awaited_same, woken_with}
@@ -95,3 +95,21 @@ returns-in-DrumFault-clause-frames g c = (c.in-DrumFault.ensures.ends.failed ref
 
 pub returns-in-Nothing-clause-frames : goal.returns-in-Nothing-clause-frames
 returns-in-Nothing-clause-frames g c = ap g.S.System.means.store.frames (c.in-Nothing.ensures.ends.same refl).0
+
+pub returns-in-Done-clause-tells : goal.returns-in-Done-clause-tells
+unfolding told_by
+returns-in-Done-clause-tells g c n is =
+    let queue = g.S.System.means.store.queue in
+    let ends = c.in-Done.ensures.ends.done c.in-Done.need refl in
+    ap (map need_of) ends.oldest ∙ ap (λ (m : Need). m ∷ map need_of (queue c.complete.new.self)) (sym ends.told ∙ ap told_by is)
+    ∙ ap (λ (q : List Transfer). n ∷ map need_of q) (sym c.hold_needed.ensures.queued.queue)
+
+pub returns-in-Done-clause-holds : goal.returns-in-Done-clause-holds
+unfolding told_by
+returns-in-Done-clause-holds g c n k is =
+    let holds = g.S.System.means.store.holds in
+    let new = holds c.hold_needed.new.system k in
+    let waits = waits_with c.args.console (the_lists.waiting c.args.lists.now) k in
+    let ends = c.in-Done.ensures.ends.done c.in-Done.need refl in
+    subst (λ (m : Need). new ≡ cond (comes_for m waits) (held_with (most_held k) m (holds c.args.system.now k)) (holds c.args.system.now k)) (ap told_by is)
+    (subst (λ (h : ℕ → List ℕ). new ≡ cond (comes_for c.in-Done.need waits) (held_with (most_held k) c.in-Done.need (h k)) (h k)) ends.holds (c.hold_needed.ensures.holds k))

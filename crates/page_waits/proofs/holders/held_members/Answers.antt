@@ -20,6 +20,7 @@ loop-seat-init g c = record {
   long = refl;
   all = λ k low apart none. absurd (omega (arith, low));
   members = λ k f is. let no : None ≡ Some f = sym (nothing_at (replicate 63 None) k refl) ∙ is in absurd (cc no);
+  held = λ k f is. let no : None ≡ Some f = sym (nothing_at (replicate 63 None) k refl) ∙ is in absurd (cc no);
 }
 
 pub returns-clause-all : goal.returns-clause-all

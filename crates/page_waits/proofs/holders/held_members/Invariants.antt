@@ -10,4 +10,5 @@ invariant-loop-seat g l = record {
   long : length l.forks ≡ 63;
   all : (k : ℕ) → k < l.seat → k ≢ CONSOLE_HOLDER → slice_index_or l.forks k None ≡ None → g.S.System.means.store.holds l.system k ≡ [];
   members : (k : ℕ) (f : ForkName) → slice_index_or l.forks k None ≡ Some f → the_lists.member l.lists k ≡ Some f;
+  held : (k : ℕ) (f : ForkName) → slice_index_or l.forks k None ≡ Some f → g.S.System.means.store.holds l.system k ≢ [];
 }

@@ -8,11 +8,13 @@ use Rattle.page_waits.specs.Calm.{IsRoomy}
 use Rattle.page_waits.specs.InCore.{IsInCore}
 use Rattle.page_waits.proofs.InCore.{from_calm}
 use Rattle.page_waits.proofs.Marks.{marks_then}
+use Rattle.page_waits.proofs.Moving.{few_then, fewer}
 use Rattle.plain_model.specs.Moves.{moves}
 use Rattle.plain_model.specs.Trees.{PlainTree}
 use Rattle.turn_forms.specs.Turns.{moved}
 use Rattle.fork_lists.specs.declared.lists.ForkLists.{ForkLists}
 use Rattle.page_waits.specs.Told.{AllTold, MovesSilently}
+use Rattle.page_waits.specs.Transfers.{Counts}
 use Rattle.page_waits.proofs.Silence.{deed_behind, silent_then}
 use Rattle.page_waits.proofs.Staying.{told_then}
 use Rattle.page_waits.proofs.Quieting.{quiet_still, quiet_then, spent}
@@ -27,6 +29,7 @@ returns-then-left-eq0-clause-spent g c is =
 pub loop-waits-preserved : goal.loop-waits-preserved
 loop-waits-preserved g c =
     let i = c.loop-waits.invariant in
+    let counts : Counts g.row.D.Denot = record { reads = g.D.Drum.read_count; writes = g.D.Drum.write_count } in
     let more : 4294967296 - c.loop-waits.left + 1 ≡ 4294967296 - (c.loop-waits.left - 1) = omega (arith, i.few, c.if-left-eq0.false) in
     let here = subst (λ w. Quiet g.S.System.means the_lists g.D.Drum.held (Some c.args.deed.now) None w (4294967296 - c.loop-waits.left) c.args.self.now.system c.loop-waits.self.system c.args.self.now.lists c.loop-waits.self.lists c.args.drum.now c.loop-waits.drum) c.in-Some.is i.quiet in
     record {
@@ -39,6 +42,7 @@ loop-waits-preserved g c =
       size = c.complete_for.ensures.size ∙ i.size;
       reads = omega (arith, i.reads, c.complete_for.ensures.reads);
       writes = omega (arith, i.writes, c.complete_for.ensures.writes);
+      bounded = few_then counts (4294967296 - c.loop-waits.left) 1 (4294967296 - (c.loop-waits.left - 1)) c.args.drum.now c.loop-waits.drum c.complete_for.new.drum (omega (arith, more)) i.bounded c.complete_for.ensures.bounded;
       silent = silent_then c.args.self.now.lists.sched c.loop-waits.self.lists.sched c.complete_for.new.self.lists.sched i.silent (c.in-Ok-complete_for.ensures.silent c.in-Ok-complete_for.after refl);
       within = λ n w. (c.in-Ok-complete_for.ensures.quiet c.in-Ok-complete_for.after (Some c.args.deed.now) refl).told.within n (i.within n w);
       marks = marks_then c.args.self.now c.loop-waits.self c.complete_for.new.self i.marks c.complete_for.ensures.marks;
@@ -85,6 +89,7 @@ loop-waits-preserved-in-Err g c =
       size = i.size;
       reads = i.reads;
       writes = i.writes;
+      bounded = i.bounded;
       within = λ n w. still.told.within n (i.within n w);
       silent = subst (λ (l : ForkLists). MovesSilently old.lists.sched l.sched) (sym (c.in-Err.ensures.stays need refl)) i.silent;
       marks = marks_then old mid new i.marks (record { limit = c.ask.ensures.limit; frames = c.ask.ensures.frames; auto = c.ask.ensures.mark });
@@ -97,3 +102,20 @@ returns-then-left-eq0-clause-calm g c frames d fits core which = absurd (let non
 
 pub returns-then-left-eq0-clause-answers : goal.returns-then-left-eq0-clause-answers
 returns-then-left-eq0-clause-answers g c frames d fits core which = let none : None ≡ Some c.in-Some.need = sym (c.loop-waits.invariant.first frames d fits core which) ∙ c.in-Some.is in cc none
+
+pub returns-in-Ok-clause-bounded : goal.returns-in-Ok-clause-bounded
+returns-in-Ok-clause-bounded g c =
+    let counts : Counts g.row.D.Denot = record { reads = g.D.Drum.read_count; writes = g.D.Drum.write_count } in
+    fewer counts (4294967296 - c.loop-waits.left) 4294967296 c.args.drum.now c.loop-waits.drum (omega arith) c.loop-waits.invariant.bounded
+
+pub returns-then-left-eq0-clause-bounded : goal.returns-then-left-eq0-clause-bounded
+returns-then-left-eq0-clause-bounded g c =
+    let counts : Counts g.row.D.Denot = record { reads = g.D.Drum.read_count; writes = g.D.Drum.write_count } in
+    fewer counts (4294967296 - c.loop-waits.left) 4294967296 c.args.drum.now c.loop-waits.drum (omega arith) c.loop-waits.invariant.bounded
+
+pub returns-in-Err-complete_for-clause-bounded : goal.returns-in-Err-complete_for-clause-bounded
+returns-in-Err-complete_for-clause-bounded g c =
+    let counts : Counts g.row.D.Denot = record { reads = g.D.Drum.read_count; writes = g.D.Drum.write_count } in
+    let some = c.if-left-eq0.false in
+    let few = c.loop-waits.invariant.few in
+    few_then counts (4294967296 - c.loop-waits.left) 1 4294967296 c.args.drum.now c.loop-waits.drum c.complete_for.new.drum (omega (arith, some, few)) c.loop-waits.invariant.bounded c.complete_for.ensures.bounded

@@ -7,6 +7,7 @@ use Rattle.page_waits.specs.Calm.{IsRoomy}
 use Rattle.page_waits.specs.InCore.{IsInCore}
 use Rattle.page_waits.specs.Machines.{KeepsMarks}
 use Rattle.page_waits.specs.Told.{MovesSilently}
+use Rattle.page_waits.specs.Transfers.{MovesAtMost}
 use Rattle.page_waits.specs.Waits.{AreAwaited, waits_with, the_lists}
 use Rattle.page_waits.proofs.InCore.{Untouched}
 use Rattle.page_waits.proofs.machine.Machine.bring.Given as goal
@@ -20,6 +21,7 @@ invariant-loop-waits g l = record {
   size : g.D.Drum.size l.drum ≡ g.D.Drum.size l.fn.drum;
   reads : g.D.Drum.read_count l.fn.drum ≤ g.D.Drum.read_count l.drum;
   writes : g.D.Drum.write_count l.fn.drum ≤ g.D.Drum.write_count l.drum;
+  bounded : MovesAtMost (record { reads = g.D.Drum.read_count; writes = g.D.Drum.write_count }) (4294967296 - l.left) l.fn.drum l.drum;
   within : (n : ℕ) → g.S.System.means.within l.fn.self.system n → g.S.System.means.within l.self.system n;
   silent : MovesSilently l.fn.self.lists.sched l.self.lists.sched;
   marks : KeepsMarks l.fn.self l.self;

@@ -7,14 +7,14 @@ use Rattle.page_waits.specs.Acts.{IdledOver, Quiet}
 use Rattle.page_waits.specs.Calm.{IsRoomy}
 use Rattle.page_waits.specs.Holders.{AreReleased}
 use Rattle.page_waits.specs.InCore.{RanCalmly}
-use Rattle.page_waits.specs.Idling.{Counts, Moved}
 use Rattle.fork_lists.specs.declared.lists.ForkLists.{ForkLists}
 use Rattle.page_waits.specs.Told.{MovesSilently, TookRow}
+use Rattle.page_waits.specs.Transfers.{Counts, Moved}
 use Rattle.page_waits.specs.Waits.{the_lists}
 use Rattle.page_waits.proofs.Idle.{nobody_runs}
 use Rattle.page_waits.proofs.InCore.{from_calm, from_idle, still_idle}
 use Rattle.page_waits.proofs.Marks.{marks_then}
-use Rattle.page_waits.proofs.Moving.{moved_then}
+use Rattle.page_waits.proofs.Moving.{few_then, fewer, moved_then}
 use Rattle.page_waits.proofs.Quieting.{ran_quiet, quiet_still, quiet_then, idle_spent, idle_quiet}
 use Rattle.page_waits.proofs.Silence.{row_behind, silent_arrival, silent_then}
 use Rattle.page_waits.proofs.machine.Machine.look.Goals as goal
@@ -101,6 +101,7 @@ loop-u-preserved g c =
       moved =
           subst (λ n. Moved counts n c.args.drum.now c.complete.new.drum) more
           (moved_then counts (4294967296 - c.loop-u.left) 1 c.args.drum.now c.loop-u.drum c.complete.new.drum i.moved (c.in-Done.ensures.moved need refl) c.complete.ensures.reads c.complete.ensures.writes);
+      bounded = few_then counts (4294967296 - c.loop-u.left) 1 (4294967296 - (c.loop-u.left - 1)) c.args.drum.now c.loop-u.drum c.complete.new.drum (omega (arith, more)) i.bounded c.complete.ensures.bounded;
       later = omega (arith, i.later, c.complete.ensures.later);
       size = c.complete.ensures.size ∙ i.size;
       reads = omega (arith, i.reads, c.complete.ensures.reads);
@@ -152,3 +153,27 @@ returns-in-DrumFault-clause-calm g c frames d fits core roomy =
     let planned = c.first_units.new.self in
     let idled = from_idle means IsRoomy old.system mid.system old.lists mid.lists c.loop-u.invariant.calm frames d fits core roomy planned.system planned.lists c.first_units.result (c.first_units.ensures.calm frames d) c.in_default.is in
     cc (c.in-DrumFault.ensures.empty (still_idle means frames old.system planned.system old.lists planned.lists core idled))
+
+pub returns-in-Some-clause-bounded : goal.returns-in-Some-clause-bounded
+returns-in-Some-clause-bounded g c =
+    let counts : Counts g.row.D.Denot = record { reads = g.D.Drum.read_count; writes = g.D.Drum.write_count } in
+    fewer counts (4294967296 - c.loop-u.left) 4294967296 c.args.drum.now c.loop-u.drum (omega arith) c.loop-u.invariant.bounded
+
+pub returns-then-not-self-clause-bounded : goal.returns-then-not-self-clause-bounded
+returns-then-not-self-clause-bounded g c =
+    let counts : Counts g.row.D.Denot = record { reads = g.D.Drum.read_count; writes = g.D.Drum.write_count } in
+    fewer counts (4294967296 - c.loop-u.left) 4294967296 c.args.drum.now c.loop-u.drum (omega arith) c.loop-u.invariant.bounded
+
+pub returns-in-Nothing-clause-bounded : goal.returns-in-Nothing-clause-bounded
+returns-in-Nothing-clause-bounded g c =
+    let counts : Counts g.row.D.Denot = record { reads = g.D.Drum.read_count; writes = g.D.Drum.write_count } in
+    let some = c.if-left-eq0.false in
+    let few = c.loop-u.invariant.few in
+    few_then counts (4294967296 - c.loop-u.left) 1 4294967296 c.args.drum.now c.loop-u.drum c.complete.new.drum (omega (arith, some, few)) c.loop-u.invariant.bounded c.complete.ensures.bounded
+
+pub returns-in-DrumFault-clause-bounded : goal.returns-in-DrumFault-clause-bounded
+returns-in-DrumFault-clause-bounded g c =
+    let counts : Counts g.row.D.Denot = record { reads = g.D.Drum.read_count; writes = g.D.Drum.write_count } in
+    let some = c.if-left-eq0.false in
+    let few = c.loop-u.invariant.few in
+    few_then counts (4294967296 - c.loop-u.left) 1 4294967296 c.args.drum.now c.loop-u.drum c.complete.new.drum (omega (arith, some, few)) c.loop-u.invariant.bounded c.complete.ensures.bounded
