@@ -21,7 +21,7 @@ use Rattle.script_texts.specs.declared.event.Step.TheVariants.{Outer}
 use Rattle.script_texts.proofs.Takers.{AreTurns-append, goes_on_nil}
 use Rattle.paged_events.specs.Calmly.{ComeCalmly, GoesCalmly, TurnsCalmly, WhereInCore}
 use Rattle.paged_events.specs.Given.{Acted, Adds, GivenTurns, Gives, Standing, TookTurns}
-use Rattle.machine_events.specs.Outcome.{CutOff, CutOver, GaveBefore, Stopped}
+use Rattle.event_items.specs.Outcome.{CutOff, CutOver, GaveBefore, Stopped}
 use Rattle.paged_events.specs.Turns.{AreTurnsOver}
 use Rattle.paged_events.specs.declared.fault.Fault.{Fault}
 use Rattle.paged_events.specs.declared.fault.Fault.TheVariants.{Drum, Taker}

@@ -2,8 +2,8 @@
 use Rattle.std.proofs.Common.{◌≡◌, ℕ, zero, suc, ◌≤◌, List, [], ◌∷◌, ◌++◌, length, length-append, replicate, append_assoc, true, refl, sym, ◌∙◌, ap, subst, arith}
 use Rattle.std.proofs.lemmas.List.{append-nil}
 use Rattle.job_sched.specs.Schedules.{Schedule}
-use Rattle.machine_events.specs.PassedOver.{AreNear, ComeCloser}
-use Rattle.machine_events.proofs.PassedOver.{closer_fair, few_fair}
+use Rattle.paged_events.specs.PassedOver.{AreNear, ComeCloser}
+use Rattle.paged_events.proofs.PassedOver.{closer_fair, few_fair}
 use Rattle.page_waits.specs.Calm.{AreRoomy, IsCalmlyFair, IsRoomy}
 use Rattle.plain_model.specs.Run.{AreLegal, apply, state_after}
 use Rattle.plain_model.specs.State.{PlainState}

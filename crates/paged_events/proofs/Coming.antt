@@ -18,10 +18,10 @@ use Rattle.fork_lists.specs.Ties.{AreTied}
 use Rattle.fork_lists.proofs.Chosen.{all_listed, test_filled}
 use Rattle.turn_forms.specs.Turns.{moved}
 use Rattle.turn_forms.proofs.Passing.{acts_come}
-use Rattle.machine_events.specs.PassedOver.{AreNear, ComeCloser}
-use Rattle.machine_events.proofs.PassedOver.{near_tied, tied_line}
-use Rattle.machine_events.proofs.RowPassed.{comes_behind, head_at, head_counts, idle_passed, nears_at, row_passed}
-use Rattle.machine_events.proofs.StepDid.{Idles, all_idle}
+use Rattle.paged_events.specs.PassedOver.{AreNear, ComeCloser}
+use Rattle.paged_events.proofs.PassedOver.{near_tied, tied_line}
+use Rattle.paged_events.proofs.RowPassed.{comes_behind, head_at, head_counts, idle_passed, nears_at, row_passed}
+use Rattle.paged_events.proofs.Idles.{Idles, all_idle}
 use Rattle.page_contracts.specs.DrumWords.{DrumWords}
 use Rattle.page_waits.specs.Acts.{RanOver}
 use Rattle.page_waits.specs.Calm.{IsRoomy}

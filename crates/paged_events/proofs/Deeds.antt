@@ -18,7 +18,7 @@ use Rattle.script_texts.specs.declared.event.Event.{Event}
 use Rattle.script_texts.specs.declared.event.Step.{Step}
 use Rattle.script_texts.specs.declared.event.Step.TheVariants.{Outer}
 use Rattle.paged_events.specs.Given.{Gives, Standing}
-use Rattle.machine_events.specs.Outcome.{CutOver}
+use Rattle.event_items.specs.Outcome.{CutOver}
 
 outer_is : (s : PlainState) (e : Event) → deed s (ADeed e) ≡ over (outer s e)
 unfolding deed

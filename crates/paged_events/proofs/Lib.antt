@@ -8,6 +8,9 @@ mod TypeIn
 mod Acted
 mod RowsMore
 mod NoMoves
+mod PassedOver
+mod RowPassed
+mod Idles
 mod Calmness
 mod Coming
 pub mod Taking

@@ -12,8 +12,8 @@ use Rattle.script_texts.proofs.Takers.{goes_on_append}
 use Rattle.script_texts.specs.declared.event.Event.{Event}
 use Rattle.script_texts.specs.declared.event.Step.{Step}
 use Rattle.paged_events.specs.Given.{Gives, Standing}
-use Rattle.machine_events.specs.Outcome.{CutOver, GaveBefore, judged_by}
-use Rattle.machine_events.proofs.Gave.{gave_append, gave_cut, gave_none}
+use Rattle.event_items.specs.Outcome.{CutOver, GaveBefore, judged_by}
+use Rattle.event_items.proofs.Gave.{gave_append, gave_cut, gave_none}
 
 module _ {S : Type 0} (means : SystemMeaning S) {D T : Type 0} (held : D → Option DrumWords) (stands cut : Standing T) (auto : Bool) where
   abbrev mark : Bool

@@ -7,7 +7,7 @@ use Rattle.job_sched.specs.Schedules.{Schedule, heads}
 use Rattle.job_sched.specs.Units.{IsTimed}
 use Rattle.job_sched.proofs.Lines.{due}
 use Rattle.job_sched.proofs.Ties.{none_runs}
-use Rattle.machine_events.proofs.RowPassed.{head_alone, head_counts}
+use Rattle.paged_events.proofs.RowPassed.{head_alone, head_counts}
 use Rattle.machine_names.specs.declared.names.ForkName.{ForkName}
 use Rattle.page_waits.specs.Told.{all_arrived}
 use Rattle.plain_model.specs.Forks.{runs_in}

@@ -1,8 +1,8 @@
 -- Rows of turns, one behind another.
 use Rattle.std.proofs.Common.{◌≡◌, ℕ, ◌+◌, List, [], ◌∷◌, ◌++◌, Bool, refl, subst, arith}
 use Rattle.fork_lists.specs.declared.lists.ForkLists.{ForkLists}
-use Rattle.page_waits.specs.Idling.{Counts}
 use Rattle.page_waits.specs.Systems.{SystemMeaning}
+use Rattle.page_waits.specs.Transfers.{Counts}
 use Rattle.paged_events.specs.Rows.{AreRows, Row, TookRows, idle, turns_in, units}
 
 turns_both : (xs ys : List Row) → turns_in (xs ++ ys) ≡ turns_in xs + turns_in ys

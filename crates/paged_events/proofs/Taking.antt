@@ -9,7 +9,7 @@ use Rattle.job_sched.proofs.Alone.{runs_on}
 use Rattle.job_sched.proofs.Ties.{arrived_listed, waits_filled, waits_listed}
 use Rattle.job_sched.proofs.Units.{row_within, rows_filled, rows_join, rows_listed}
 use Rattle.job_sched.proofs.Waits.{size_arrived, size_ran, size_waited}
-use Rattle.machine_events.proofs.RowPassed.{head_at}
+use Rattle.paged_events.proofs.RowPassed.{head_at}
 use Rattle.machine_names.specs.declared.names.ForkName.{ForkName}
 use Rattle.page_contracts.specs.declared.answers.Need.{Need}
 use Rattle.page_waits.proofs.Silence.{silent_nil, silent_then}

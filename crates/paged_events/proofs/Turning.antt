@@ -16,7 +16,7 @@ use Rattle.script_texts.specs.declared.event.Step.{Step}
 use Rattle.script_texts.specs.declared.event.Step.TheVariants.{Idle as AnIdle, Unit as AUnit}
 use Rattle.step_shown.specs.declared.progress.Progress.{Progress}
 use Rattle.paged_events.specs.Given.{Gives, Standing}
-use Rattle.machine_events.specs.Outcome.{CutOver, judged_by}
+use Rattle.event_items.specs.Outcome.{CutOver, judged_by}
 
 -- so many equal turns are turns
 pub are_turns : (n : ℕ) (step : Step) → IsTurn step → AreTurns (replicate n step)

@@ -18,7 +18,7 @@ use Rattle.script_texts.specs.declared.event.Step.TheVariants.{Outer}
 use Rattle.script_texts.specs.Taker.{GoesOn, IsCut}
 use Rattle.script_texts.proofs.Takers.{cut_behind, cut_longer, goes_on_append}
 use Rattle.paged_events.specs.Given.{Gives, Standing}
-use Rattle.machine_events.specs.Outcome.{CutOver, GaveBefore}
+use Rattle.event_items.specs.Outcome.{CutOver, GaveBefore}
 use Rattle.paged_events.specs.Typing.{CutTyped, DidTyped, ShowedFirst}
 
 -- all characters of a text

@@ -2,7 +2,7 @@
 use Rattle.std.specs.Prelude.{◌≡◌, ℕ, List, [], ◌∷◌, true, Option}
 use Rattle.fork_lists.specs.declared.lists.ForkLists.{ForkLists}
 use Rattle.job_sched.specs.Schedules.{Schedule}
-use Rattle.machine_events.specs.PassedOver.{AreNear, ComesCloser}
+use Rattle.paged_events.specs.PassedOver.{AreNear, ComesCloser}
 use Rattle.page_contracts.specs.DrumWords.{DrumWords, Stands}
 use Rattle.page_waits.specs.Calm.{AreRoomy, IsCalmlyFair, IsRoomy}
 use Rattle.page_waits.specs.InCore.{IsInCore}

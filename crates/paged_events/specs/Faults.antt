@@ -1,6 +1,6 @@
 -- How an event ends by what failed.
-use Rattle.machine_events.specs.declared.machine.Ended.{Ended}
-use Rattle.machine_events.specs.declared.machine.Ended.TheVariants.{DrumFault, TakerFault}
+use Rattle.event_items.specs.declared.ended.Ended.{Ended}
+use Rattle.event_items.specs.declared.ended.Ended.TheVariants.{DrumFault, TakerFault}
 use Rattle.paged_events.specs.declared.fault.Fault.{Fault}
 use Rattle.paged_events.specs.declared.fault.Fault.TheVariants.{Drum, Taker}
 

@@ -8,7 +8,7 @@ use Rattle.script_texts.specs.declared.event.Event.{Event}
 use Rattle.script_texts.specs.declared.event.Event.TheVariants.{Run}
 use Rattle.script_texts.specs.declared.event.Item.{Item}
 use Rattle.script_texts.specs.declared.event.Step.{Step}
-use Rattle.machine_events.specs.Outcome.{CutOff, GaveOver, Stopped}
+use Rattle.event_items.specs.Outcome.{CutOff, GaveOver, Stopped}
 use Rattle.paged_events.specs.Calmly.{GoesCalmly, TurnsCalmly}
 use Rattle.paged_events.specs.Turns.{AreTurnsOver}
 use Rattle.paged_events.specs.declared.fault.Fault.{Fault}

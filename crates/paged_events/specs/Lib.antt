@@ -1,8 +1,10 @@
 pub mod Faults
 pub mod Outside
+pub mod PassedOver
 pub mod Calmly
 pub mod Given
 pub mod Typing
 pub mod Rows
+pub mod Budgets
 pub mod Turns
 pub mod Events

@@ -2,7 +2,7 @@
 use Rattle.std.specs.Prelude.{◌≡◌, ℕ, ◌≤◌, Result, Err}
 use Rattle.outside.specs.Faults.{Rose}
 use Rattle.script_texts.specs.Taker.{StaysOnward}
-use Rattle.machine_events.specs.Outcome.{DrumStays}
+use Rattle.event_items.specs.Outcome.{DrumStays}
 use Rattle.paged_events.specs.declared.fault.Fault.{Fault}
 use Rattle.paged_events.specs.declared.fault.Fault.TheVariants.{Drum, Taker}
 

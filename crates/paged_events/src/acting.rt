@@ -10,6 +10,7 @@ ghost use Rattle.page_waits.specs.Systems.{StaysState};
 ghost use Rattle.page_waits.specs.Waits.{the_lists};
 ghost use Rattle.page_waits.specs.Machines.{IsBare, KeepsMarks, auto, limit};
 ghost use Rattle.page_waits.specs.Told.{MovesSilently, TookDeed};
+ghost use Rattle.page_waits.specs.Transfers.{MovesAtMost, most_transfers};
 ghost use Rattle.script_texts.specs.Limits.{FitsCause};
 ghost use Rattle.paged_events.specs.Given.{Acted, IsWithin};
 ghost use Rattle.paged_events.specs.Outside.{UsesOutside};
@@ -65,6 +66,7 @@ pub fn look<S: System, D: Drum, T: Taker>(
     requires cause { FitsCause cause }
     ensures acted { Acted S.means D.held T.stands T.cut (auto waits.old) e.now result waits.old.system waits.new.system waits.old.lists waits.new.lists drum.old drum.new out.old out.new }
     ensures outside { UsesOutside T.onward T.fault_count D.fault_count D.read_count D.write_count D.size result out.old out.new drum.old drum.new }
+    ensures bounded { MovesAtMost (record { reads = D.read_count; writes = D.write_count }) most_transfers drum.old drum.new }
     ensures bare { IfOk result (λ n. IsBare waits.new) }
     ensures marks { KeepsMarks waits.old waits.new }
     ensures took { IfOk result (λ n. TookDeed (S.means.tree waits.old.system).forks (S.means.tree waits.new.system).forks waits.old.lists.sched waits.new.lists.sched) }
@@ -111,6 +113,7 @@ pub fn end_transfers<S: System, D: Drum>(
     ensures size { D.size drum.new ≡ D.size drum.old }
     ensures reads { D.read_count drum.old ≤ D.read_count drum.new }
     ensures writes { D.write_count drum.old ≤ D.write_count drum.new }
+    ensures bounded { MovesAtMost (record { reads = D.read_count; writes = D.write_count }) n drum.old drum.new }
     ensures none { IfOk result (λ k. k ≡ 0) }
     ensures fails { result ≡ Err Fault.Taker → ⊥ }
     ensures quiet { OnOk result (Quiet S.means the_lists D.held None None None 0 waits.old.system waits.new.system waits.old.lists waits.new.lists drum.old drum.new) }

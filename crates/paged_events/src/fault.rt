@@ -2,7 +2,7 @@
 ghost use Rattle.std.specs.Prelude.{◌≡◌};
 ghost use Rattle.paged_events.specs.Faults.{ended_by};
 
-use machine_events::Ended;
+use event_items::Ended;
 
 /// What failed of the outside.
 #[derive(Clone, Copy)]

@@ -3,13 +3,15 @@ ghost use Rattle.std.specs.Prelude.{◌≡◌, ◌<◌, ◌^◌, ◌≤◌, ◌�
 ghost use Rattle.outside.specs.Faults.{Rose};
 ghost use Rattle.page_contracts.specs.Stores.{Evicts};
 ghost use Rattle.page_waits.specs.Machines.{IsBare, auto as mark_of, frames as frames_of, limit as limit_of};
+ghost use Rattle.page_waits.specs.Transfers.{MovesAtMost, most_transfers};
 ghost use Rattle.script_texts.specs.Follows.{auto_after};
 ghost use Rattle.script_texts.specs.Limits.{FitsEvent};
 ghost use Rattle.script_texts.specs.Taker.{StaysOnward};
 ghost use Rattle.script_texts.specs.declared.event.Event.{Event as AnEvent};
+ghost use Rattle.paged_events.specs.Budgets.{IsLook, most_in_turns};
 ghost use Rattle.paged_events.specs.Events.{Went};
 ghost use Rattle.paged_events.specs.Given.{Acted, IsWithin};
-ghost use Rattle.machine_events.specs.Outcome.{CutOff, DrumStays, Stopped};
+ghost use Rattle.event_items.specs.Outcome.{CutOff, DrumStays, Stopped};
 ghost use Rattle.paged_events.specs.Outside.{UsesOutside};
 ghost use Rattle.paged_events.specs.Rows.{TookRows};
 
@@ -17,7 +19,7 @@ use crate::acting::{end_transfers, evict, look, set_auto, step};
 use crate::fault::Fault;
 use crate::running::run;
 use crate::typing::type_in;
-use machine_events::Ended;
+use event_items::Ended;
 use outside::Drum;
 use page_waits::{Machine as Waits, System};
 use script_texts::{Event, Refusal, Taker};
@@ -49,6 +51,9 @@ fn act<S: System, D: Drum, T: Taker>(
     ensures off { (n : ℕ) → e ≡ AnEvent.Run n → mark_of waits.old ≡ false → drum.new ≡ drum.old }
     ensures evicts { (n : ℕ) → e ≡ AnEvent.Evict n → Evicts S.means.store n waits.old.system waits.new.system }
     ensures ends { (n : ℕ) → e ≡ AnEvent.Drum n → OnOk result (S.means.store.queue waits.new.system ≡ drop n (S.means.store.queue waits.old.system)) }
+    ensures run_moves { (n : ℕ) → e ≡ AnEvent.Run n → MovesAtMost (record { reads = D.read_count; writes = D.write_count }) (most_in_turns n) drum.old drum.new }
+    ensures look_moves { IsLook e → MovesAtMost (record { reads = D.read_count; writes = D.write_count }) most_transfers drum.old drum.new }
+    ensures drum_moves { (n : ℕ) → e ≡ AnEvent.Drum n → MovesAtMost (record { reads = D.read_count; writes = D.write_count }) n drum.old drum.new }
     ensures bare { IfOk result (λ n. IsBare waits.new) }
     ensures auto { mark_of waits.new ≡ auto_after (mark_of waits.old) e }
     ensures limit { limit_of waits.new ≡ limit_of waits.old }
@@ -105,6 +110,11 @@ impl<S: System> Machine<S> {
         ensures off { (n : ℕ) → e ≡ AnEvent.Run n → mark_of self.old.waits ≡ false → drum.new ≡ drum.old }
         ensures evicts { (n : ℕ) → e ≡ AnEvent.Evict n → Evicts S.means.store n self.old.waits.system self.new.waits.system }
         ensures ends { (n : ℕ) → e ≡ AnEvent.Drum n → result ≡ Ended.Went → S.means.store.queue self.new.waits.system ≡ drop n (S.means.store.queue self.old.waits.system) }
+
+        // However it ends, so many transfers end at most: with all turns of a RUN, with a POKE or an EXAMINE, and with a DRUM.
+        ensures run_moves { (n : ℕ) → e ≡ AnEvent.Run n → MovesAtMost (record { reads = D.read_count; writes = D.write_count }) (most_in_turns n) drum.old drum.new }
+        ensures look_moves { IsLook e → MovesAtMost (record { reads = D.read_count; writes = D.write_count }) most_transfers drum.old drum.new }
+        ensures drum_moves { (n : ℕ) → e ≡ AnEvent.Drum n → MovesAtMost (record { reads = D.read_count; writes = D.write_count }) n drum.old drum.new }
 
         ensures auto { mark_of self.new.waits ≡ auto_after (mark_of self.old.waits) e }
         ensures live { (self.new.live ≡ true) ↔ (result ≡ Ended.Went) }

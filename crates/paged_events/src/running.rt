@@ -1,8 +1,10 @@
 // RUN: turns, each given to a taker.
 ghost use Rattle.std.specs.Prelude.{◌≡◌, ◌≤◌, ◌^◌, IfOk, OnOk, false};
 ghost use Rattle.page_waits.specs.Machines.{IsBare, KeepsMarks, auto, limit};
+ghost use Rattle.page_waits.specs.Transfers.{MovesAtMost};
 ghost use Rattle.page_waits.specs.declared.turn.Turn.{Turn as ATurn};
 ghost use Rattle.script_texts.specs.declared.event.Event.{Event as AnEvent};
+ghost use Rattle.paged_events.specs.Budgets.{most_in_turns};
 ghost use Rattle.paged_events.specs.Given.{Acted, IsWithin, TookTurns};
 ghost use Rattle.paged_events.specs.Outside.{UsesOutside};
 ghost use Rattle.paged_events.specs.Rows.{TookRows};
@@ -28,6 +30,8 @@ fn next_turns<S: System, D: Drum, T: Taker>(
     ensures took { TookTurns S.means D.held T.stands T.cut (auto waits.old) left result waits.old.system waits.new.system waits.old.lists waits.new.lists drum.old drum.new out.old out.new }
     ensures rows { IfOk result (λ n. TookRows S.means (record { reads = D.read_count; writes = D.write_count }) (auto waits.old) n waits.old.system waits.new.system waits.old.lists waits.new.lists drum.old drum.new) }
     ensures outside { UsesOutside T.onward T.fault_count D.fault_count D.read_count D.write_count D.size result out.old out.new drum.old drum.new }
+    ensures some { IfOk result (λ n. MovesAtMost (record { reads = D.read_count; writes = D.write_count }) (most_in_turns n) drum.old drum.new) }
+    ensures bounded { MovesAtMost (record { reads = D.read_count; writes = D.write_count }) (most_in_turns left) drum.old drum.new }
     ensures off { auto waits.old ≡ false → drum.new ≡ drum.old }
     ensures bare { IfOk result (λ n. IsBare waits.new) }
     ensures marks { KeepsMarks waits.old waits.new }
@@ -68,6 +72,7 @@ pub fn run<S: System, D: Drum, T: Taker>(
     ensures acted { Acted S.means D.held T.stands T.cut (auto waits.old) (AnEvent.Run n) result waits.old.system waits.new.system waits.old.lists waits.new.lists drum.old drum.new out.old out.new }
     ensures rows { OnOk result (TookRows S.means (record { reads = D.read_count; writes = D.write_count }) (auto waits.old) n waits.old.system waits.new.system waits.old.lists waits.new.lists drum.old drum.new) }
     ensures outside { UsesOutside T.onward T.fault_count D.fault_count D.read_count D.write_count D.size result out.old out.new drum.old drum.new }
+    ensures bounded { MovesAtMost (record { reads = D.read_count; writes = D.write_count }) (most_in_turns n) drum.old drum.new }
     ensures off { auto waits.old ≡ false → drum.new ≡ drum.old }
     ensures bare { IfOk result (λ n. IsBare waits.new) }
     ensures marks { KeepsMarks waits.old waits.new }

@@ -52,11 +52,13 @@ returns-in-Ok-end_quantum-clause-rows g c =
           between = c.turns.new.self.system;
           lists = c.turns.new.self.lists;
           at = c.turns.new.drum;
+          few = c.turns.ensures.bounded;
           row = c.in-Ok.ensures.row c.in-Ran.row (ap Ok c.in-Ran.is);
           forks = c.in-Ok-end_quantum.ensures.quiet.told.tree;
           silent = c.in-Ok-end_quantum.ensures.silent;
           ends = λ is. c.in-Ok-end_quantum.ensures.ended (ap (λ b. c.in-Ran.row.ended && b) auto ∙ is);
           stays = λ is. c.end_quantum.ensures.still (ap (λ b. c.in-Ran.row.ended && b) auto ∙ is);
+          one = c.end_quantum.ensures.bounded;
           off = λ is. c.end_quantum.ensures.still (and_off c.in-Ran.row.ended c.turns.new.self.auto (auto ∙ is)) ∙ c.turns.ensures.off is;
         },
         (refl, refl, refl),
@@ -116,7 +118,7 @@ returns-in-Ok-give_idle-clause-rows g c =
         c.turns.new.self.system,
         c.turns.new.self.lists,
         c.turns.new.drum,
-        record { forks = (subst (λ (w : Turn). Turned g.S.System.means the_lists g.D.Drum.held c.args.waits.now.auto c.args.waits.now.system c.turns.new.self.system c.args.drum.now c.turns.new.drum w) c.in-Idle.is c.in-Ok.ensures.turned).tree; silent = c.in-Ok.ensures.silent c.in-Idle.count (ap Ok c.in-Idle.is); idle = c.in-Ok.ensures.idle c.in-Idle.count (ap Ok c.in-Idle.is); off = c.turns.ensures.off },
+        record { forks = (subst (λ (w : Turn). Turned g.S.System.means the_lists g.D.Drum.held c.args.waits.now.auto c.args.waits.now.system c.turns.new.self.system c.args.drum.now c.turns.new.drum w) c.in-Idle.is c.in-Ok.ensures.turned).tree; silent = c.in-Ok.ensures.silent c.in-Idle.count (ap Ok c.in-Idle.is); idle = c.in-Ok.ensures.idle c.in-Idle.count (ap Ok c.in-Idle.is); off = c.turns.ensures.off; few = c.turns.ensures.bounded },
         (refl, refl, refl),
       );
     }

@@ -1,9 +1,9 @@
 use Rattle.std.proofs.Common.{◌≡◌, ◌+◌, ◌-◌, ◌^◌, refl, ◌∙◌, ap, subst, arith}
 use Rattle.script_texts.specs.declared.event.Event.TheVariants.{Run}
 use Rattle.plain_model.specs.Trees.{PlainTree}
-use Rattle.page_waits.specs.Idling.{Counts}
+use Rattle.page_waits.specs.Transfers.{Counts}
 use Rattle.paged_events.specs.Given.{GivenTurns}
-use Rattle.machine_events.specs.Outcome.{CutOff, Stopped}
+use Rattle.event_items.specs.Outcome.{CutOff, Stopped}
 use Rattle.paged_events.specs.Rows.{TookRows}
 use Rattle.paged_events.proofs.Acted.{no_turns, turns_cut, turns_given, turns_more, turns_stopped}
 use Rattle.paged_events.proofs.Coming.{nothing_calm}
@@ -22,6 +22,7 @@ loop-left-init g c =
           (nothing_calm g.S.System.means (λ s d fits. ap (λ (t : PlainTree). t.forks) (g.met.S.System.forked s d fits)) g.D.Drum.held c.args.waits.now.system c.args.waits.now.lists c.args.drum.now c.lists_are_sound.ensures.tied c.lists_are_sound.ensures.sound));
       rows = subst (λ k. TookRows g.S.System.means counts c.args.waits.now.auto k c.args.waits.now.system c.args.waits.now.system c.args.waits.now.lists c.args.waits.now.lists c.args.drum.now c.args.drum.now) none (rows_none g.S.System.means counts c.args.waits.now.auto c.args.waits.now.system c.args.waits.now.lists c.args.drum.now);
       outside = outside_nil g.T.Taker.onward g.T.Taker.fault_count g.D.Drum.fault_count g.D.Drum.read_count g.D.Drum.write_count g.D.Drum.size c.args.out.now c.args.drum.now;
+      bounded = omega arith;
       off = λ is. refl;
       bare = c.requires.bare;
       marks = record { limit = refl; frames = refl; auto = refl };
@@ -50,6 +51,7 @@ loop-left-preserved g c =
           (rows_more g.S.System.means counts c.args.waits.now.auto (c.args.n - c.loop-left.left) n c.args.waits.now.system c.loop-left.waits.system c.next_turns.new.waits.system c.args.waits.now.lists c.loop-left.waits.lists c.next_turns.new.waits.lists c.args.drum.now c.loop-left.drum c.next_turns.new.drum i.rows
           (subst (λ a. TookRows g.S.System.means counts a n c.loop-left.waits.system c.next_turns.new.waits.system c.loop-left.waits.lists c.next_turns.new.waits.lists c.loop-left.drum c.next_turns.new.drum) i.marks.auto c.in-Ok.ensures.rows));
       outside = outside_then g.T.Taker.onward g.T.Taker.fault_count g.D.Drum.fault_count g.D.Drum.read_count g.D.Drum.write_count g.D.Drum.size c.args.out.now c.loop-left.out c.next_turns.new.out c.args.drum.now c.loop-left.drum c.next_turns.new.drum i.outside c.next_turns.ensures.outside.later;
+      bounded = omega (arith, more, i.bounded, c.in-Ok.ensures.some);
       off = λ is. c.next_turns.ensures.off (i.marks.auto ∙ is) ∙ i.off is;
       bare = c.in-Ok.ensures.bare;
       marks = record { limit = c.next_turns.ensures.marks.limit ∙ i.marks.limit; frames = c.next_turns.ensures.marks.frames ∙ i.marks.frames; auto = c.next_turns.ensures.marks.auto ∙ i.marks.auto };

@@ -1,7 +1,7 @@
 use Rattle.std.proofs.Common.{◌≡◌, refl, sym, ◌∙◌, ap, arith}
 use Rattle.std.specs.Prelude.{Err}
 use Rattle.paged_events.specs.Faults.{ended_by}
-use Rattle.machine_events.specs.declared.machine.Ended.TheVariants.{DrumFault, TakerFault, Went}
+use Rattle.event_items.specs.declared.ended.Ended.TheVariants.{DrumFault, TakerFault, Went}
 use Rattle.paged_events.specs.declared.fault.Fault.{Fault}
 use Rattle.paged_events.specs.declared.fault.Fault.TheVariants.{Drum, Taker}
 use Rattle.paged_events.proofs.machine.Machine.event.Goals as goal
