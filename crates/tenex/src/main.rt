@@ -1,23 +1,18 @@
 //! The program: it hands its words, standard input, standard output and the files `tenex.record` and `tenex.drum`
 //! to the console, or the first three to the assembler, or to what reads a record. To its user the exit status is how that
-//! ended, and standard error says what helps. Stands on tenex_console, asm_console and record_console.
+//! ended, and standard error says what helps. Stands on tenex_console, asm_console and record_console, and on host_side for the
+//! files and what helps.
 #![tactic(auto)]
-
-mod drum_file;
-mod messages;
-mod program_text;
-mod recording;
-mod watch;
 
 use asm_console::{AsmStatus, Stopped, asm};
 use asm_core::AsmFault;
 use command_words::{RecordCommand, asked_run};
-use drum_file::{DRUM, make_drum};
-use messages::{explain, explain_error, explain_line, explain_stopped, usage};
+use host_side::{
+    BadLine, DRUM, Kept, RECORD, TextKind, Watched, explain, explain_error, explain_line,
+    explain_stopped, make_drum, make_record, usage,
+};
 use outside::{FileDrum, Source, StdSink, StdSource};
-use program_text::Kept;
 use record_console::record_command;
-use recording::{RECORD, make_record};
 use std::fs::File;
 use std::io::{self, BufWriter, ErrorKind};
 use std::process::ExitCode;
@@ -25,7 +20,6 @@ use std::rt::Env;
 use std::{env, fs};
 use tenex_console::tenex;
 use texts::Status;
-use watch::{BadLine, TextKind, Watched};
 
 /// What stands in for a standard stream that is closed: a folder, of which nothing is read and to which nothing is written.
 const NO_STREAM: &str = "/";

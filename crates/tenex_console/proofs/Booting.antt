@@ -20,8 +20,8 @@ use Rattle.page_waits.specs.declared.machine.Machine.{Machine as Waits}
 use Rattle.page_waits.specs.InCore.{IsInCore}
 use Rattle.page_waits.specs.Machines.{IsBare}
 use Rattle.paged_events.specs.declared.machine.Machine.{Machine}
+use Rattle.script_driver.specs.Driving.{IsBooted, StandsFor}
 use Rattle.tenex_console.specs.Booting.{AreNewPages}
-use Rattle.tenex_console.specs.Driving.{IsBooted, StandsFor}
 
 -- a fact of a result makes another
 pub ok_more : {A E : Type 0} {P Q : A → Type 0} (r : Result A E) → IfOk r P → ((x : A) → P x → Q x) → IfOk r Q

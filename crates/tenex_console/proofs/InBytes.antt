@@ -14,10 +14,11 @@ use Rattle.command_words.specs.declared.request.EventSource.{EventSource}
 use Rattle.command_words.specs.declared.request.EventSource.TheVariants.{Script, Generated}
 use Rattle.command_words.specs.declared.request.Request.{Request}
 use Rattle.command_words.specs.Words.{Ask}
-use Rattle.tenex_console.specs.Headline.{IsRunOf}
+use Rattle.script_driver.specs.RunTexts.{IsRunOf}
+use Rattle.script_driver.specs.Observed.{Observed}
+use Rattle.script_driver.specs.OverFrames.{IsOverFrames, RunsOverFrames}
 use Rattle.tenex_console.specs.Memory.{AreSpelled, HeadlineInBytes, whole_transcript}
-use Rattle.tenex_console.specs.Observed.{Observed}
-use Rattle.tenex_console.specs.OverFrames.{HasFrames, IsOverFrames, RunsOverFrames}
+use Rattle.tenex_console.specs.Headline.{HasFrames}
 use Rattle.tenex_console.proofs.Spelled.{record_fits}
 
 -- bytes that are told have these behind them

@@ -14,9 +14,10 @@ use Rattle.plain_alone.proofs.Isolated.{all_see_their_own}
 use Rattle.command_words.specs.declared.request.EventSource.{EventSource}
 use Rattle.command_words.specs.declared.request.EventSource.TheVariants.{Script, Generated}
 use Rattle.command_words.specs.declared.sizes.Sizes.{Sizes}
-use Rattle.tenex_console.specs.Headline.{HasHeadline, Headline, IsRunOf, entries_of}
+use Rattle.script_driver.specs.RunTexts.{Headline, IsRunOf, entries_of}
+use Rattle.script_driver.specs.Observed.{Observed}
+use Rattle.tenex_console.specs.Headline.{HasHeadline}
 use Rattle.tenex_console.specs.Isolation.{HasIsolation}
-use Rattle.tenex_console.specs.Observed.{Observed}
 use Rattle.tenex_console.proofs.Spelled.{record_fits}
 
 -- legal whatever the AUTO mark

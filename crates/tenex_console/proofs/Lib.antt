@@ -1,15 +1,7 @@
 mod Asking
 mod Booting
-mod Turns
-mod Found
-mod Lined
-mod Generating
 mod InBytes
-mod Fairness
-mod Running
-mod Closing
+mod Stopping
 mod Isolation
-mod Causes
-mod Drums
 mod Statuses
 pub mod Spelled

@@ -1,4 +1,4 @@
--- Events that lines spell are within their limits, and so are their entries: a record of these is that of no others.
+-- Events that lines spell are within their limits, and so are the entries of a run of them: a record of these is that of no others.
 use Rattle.std.proofs.Common.{ℕ, List, [], ◌∷◌, All, false}
 use Rattle.std.proofs.lemmas.List.Elements.{All-cons, All-head, All-nil, All-tail}
 use Rattle.script_texts.specs.declared.event.Event.{Event}
@@ -6,21 +6,12 @@ use Rattle.script_texts.specs.declared.event.Item.{Item}
 use Rattle.script_texts.specs.declared.event.Step.{Step}
 use Rattle.script_texts.specs.Entries.{FitsRecord}
 use Rattle.script_texts.specs.Limits.{FitsEvent}
-use Rattle.script_texts.specs.Script.{Spells}
-use Rattle.script_texts.specs.Texts.{line_of}
-use Rattle.script_lang.proofs.CanonicalSpells.{spells}
 use Rattle.script_lang.proofs.Spellings.{spelled_fits}
 use Rattle.plain_laws.proofs.Named.{opened_fit}
 use Rattle.command_words.specs.declared.sizes.Sizes.{Sizes}
-use Rattle.tenex_console.specs.Headline.{IsRunOf}
-use Rattle.tenex_console.specs.Observed.{Observed}
-
-abbrev pub IsSpelled : Event → Type 0
-IsSpelled e = (line : List ℕ) × Spells line e
-
-pub all_spelled : (es : List Event) → All FitsEvent es → All IsSpelled es
-all_spelled [] fits = All-nil IsSpelled
-all_spelled (e ∷ es) fits = All-cons IsSpelled e es (line_of e, spells e (All-head FitsEvent e es fits)) (all_spelled es (All-tail FitsEvent e es fits))
+use Rattle.script_driver.specs.RunTexts.{IsRunOf}
+use Rattle.script_driver.specs.Observed.{Observed}
+use Rattle.script_driver.proofs.Spelled.{IsSpelled}
 
 all_fit : (es : List Event) → All IsSpelled es → All FitsEvent es
 all_fit [] spelled = All-nil FitsEvent

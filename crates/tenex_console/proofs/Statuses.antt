@@ -1,7 +1,6 @@
 -- What a status tells, and where it comes from.
-use Rattle.std.proofs.Common.{◌≡◌, ◌⊎◌, inl, inr, ℕ, List, ◌++◌, Option, Some, refl, sym, ◌∙◌, ap, subst, arith, String}
+use Rattle.std.proofs.Common.{◌≡◌, ◌⊎◌, inl, inr, ℕ, List, Option, Some, refl, sym, subst, arith, String}
 use Rattle.std.specs.Prelude.{IsSome}
-use Rattle.std.proofs.lemmas.List.{append-nil}
 use Rattle.outside.specs.Faults.{Rose}
 use Rattle.page_contracts.specs.DrumWords.{DrumWords}
 use Rattle.script_texts.specs.declared.event.Event.{Event}
@@ -12,31 +11,15 @@ use Rattle.command_words.specs.declared.request.EventSource.TheVariants.{Script 
 use Rattle.command_words.specs.declared.request.Request.{Request}
 use Rattle.texts.specs.declared.last.Status.{Status}
 use Rattle.texts.specs.declared.last.Status.TheVariants.{Done, Usage, Script, DrumFault, Memory, ReadFault, WriteFault, LongScript, Illegal, Image}
+use Rattle.script_driver.specs.Observed.{Faults, IsCaused, Observed}
+use Rattle.script_driver.specs.Statuses.{IsOfRun, Judges, Ran, RanWith}
 use Rattle.tenex_console.specs.declared.asked.Unbegun.{Unbegun}
 use Rattle.tenex_console.specs.declared.asked.Unbegun.TheVariants.{Usage as WrongWords, Memory as NoMemory}
-use Rattle.tenex_console.specs.declared.driver.Driven.{Driven}
-use Rattle.tenex_console.specs.declared.driver.Driven.TheVariants.{Done as WholeScript, Bad, Long, ReadFault as Unread, DrumFault as Unpaged, TakerFault}
 use Rattle.tenex_console.specs.Command.{Generates, IsReady, IsRight, IsUsage, ReadsScript}
-use Rattle.tenex_console.specs.Verdicts.{AreGenerated, AreRun, Found, Verdict}
 use Rattle.tenex_console.specs.Headline.{IsTrueOf, Stops}
-use Rattle.tenex_console.specs.Observed.{AreSteady, Faults, IsCaused, IsSteady, Observed}
-use Rattle.tenex_console.specs.Statuses.{IsEarly, IsFaultless, IsOfRun, Judges, Ran, RanAsked, RanWith, Tells, status_after}
+use Rattle.tenex_console.specs.Steady.{AreSteady, IsSteady}
+use Rattle.tenex_console.specs.Statuses.{IsEarly, IsFaultless, RanAsked, Tells}
 use Rattle.tenex_console.proofs.Asking.{not_usage}
-
--- what the driving found is what the status tells
-pub judged_by : (script script' : Option (List ℕ)) (driven : Driven) (events : List Event) → Found script script' (Verdict driven events) → (status : Status) → status ≡ status_after driven → (bytes : List ℕ) → script ≡ Some bytes → Judges status bytes
-judged_by script script' driven events found status is bytes told = subst (λ s. Judges s bytes) (sym is) (judges driven found)
-  where
-    judges : (d : Driven) → Found script script' (Verdict d events) → Judges (status_after d) bytes
-    judges WholeScript f =
-        let x = f.each bytes told in
-        let all : x.0 ≡ bytes = sym (x.2 ∙ (ap (λ rest. x.0 ++ rest) x.4.1 ∙ append-nil x.0)) in
-        (events, subst (λ b. IsScript b events) all x.4.0)
-    judges (Bad n) f = let x = f.each bytes told in (n, events, subst (λ b. StopsAt n b events) (sym x.2) x.4)
-    judges Long f = let x = f.each bytes told in (events, subst (λ b. IsTooLong b events) (sym x.2) x.4)
-    judges Unread f = tt
-    judges Unpaged f = tt
-    judges TakerFault f = tt
 
 -- a bad script is never done, and never too long
 pub never_passed : (status : Status) (bytes : List ℕ) (n : ℕ) (es : List Event) → Judges status bytes → StopsAt n bytes es → (status ≡ Done → ⊥) × (status ≡ LongScript → ⊥)
@@ -51,31 +34,6 @@ never_short status bytes es judged long = (
   λ is. let j = subst (λ s. Judges s bytes) is judged in script_not_long bytes j.0 es j.1 long,
   λ is. let j = subst (λ s. Judges s bytes) is judged in bad_not_too_long bytes j.0 j.1 es j.2 long,
 )
-
--- which driving a status comes from
-pub read_only : (d : Driven) → status_after d ≡ ReadFault → d ≡ Unread
-read_only Unread is = refl
-read_only WholeScript is = absurd (cc is)
-read_only (Bad n) is = absurd (cc is)
-read_only Long is = absurd (cc is)
-read_only Unpaged is = absurd (cc is)
-read_only TakerFault is = absurd (cc is)
-
-pub drum_only : (d : Driven) → status_after d ≡ DrumFault → d ≡ Unpaged
-drum_only Unpaged is = refl
-drum_only WholeScript is = absurd (cc is)
-drum_only (Bad n) is = absurd (cc is)
-drum_only Long is = absurd (cc is)
-drum_only Unread is = absurd (cc is)
-drum_only TakerFault is = absurd (cc is)
-
-pub taker_only : (d : Driven) → status_after d ≡ WriteFault → d ≡ TakerFault
-taker_only TakerFault is = refl
-taker_only WholeScript is = absurd (cc is)
-taker_only (Bad n) is = absurd (cc is)
-taker_only Long is = absurd (cc is)
-taker_only Unread is = absurd (cc is)
-taker_only Unpaged is = absurd (cc is)
 
 steady : (before after : ℕ) → IsSteady before after → Rose before after → ⊥
 steady before after s r = absurd (omega (arith, s.0, s.1, r))
@@ -147,15 +105,6 @@ module _ {Z : Type 0} (words : List (String Z)) (pages : ℕ) where
         written (inl x) = steady f.out f.out_after all.out x
         written (inr y) = steady f.rec f.rec_after all.rec y
 
--- the status of a run whose texts were closed
-pub closed_began : (driven : Driven) → IsOfRun (status_after driven)
-closed_began WholeScript = tt
-closed_began (Bad n) = tt
-closed_began Long = tt
-closed_began Unread = tt
-closed_began Unpaged = tt
-closed_began TakerFault = tt
-
 -- a run that began is not early
 pub late : (status : Status) → IsOfRun status → IsEarly status → ⊥
 late Usage began early = began
@@ -174,22 +123,6 @@ pub ran_asked : (told : Observed) (request : Request) (events : EventSource) (fr
     → RanWith events frames pages told status → IsSome told.before.drum → Ran request told status
 ran_asked told request events frames pages status is core room ran paged = subst (λ e. Ran (record { events = e; sizes = request.sizes }) told status) is (ran request.sizes core room paged)
 
--- a generated script is never bad, and never too long
-pub never_judged : (script script' : Option (List ℕ)) (seed : ℕ) (driven : Driven) (events : List Event) → AreRun (Generated seed) script script' driven events → (status : Status) → status ≡ status_after driven
-    → (status ≡ Script → ⊥) × (status ≡ LongScript → ⊥)
-never_judged script script' seed driven events found status is = (λ bad. never driven found.0 (inl (sym is ∙ bad)), λ long. never driven found.0 (inr (sym is ∙ long)))
-  where
-    never : (d : Driven) → AreGenerated seed d events → (status_after d ≡ Script) ⊎ (status_after d ≡ LongScript) → ⊥
-    never WholeScript f (inl x) = absurd (cc x)
-    never WholeScript f (inr x) = absurd (cc x)
-    never (Bad n) f x = f
-    never Long f x = f
-    never Unread f x = f
-    never Unpaged f (inl x) = absurd (cc x)
-    never Unpaged f (inr x) = absurd (cc x)
-    never TakerFault f (inl x) = absurd (cc x)
-    never TakerFault f (inr x) = absurd (cc x)
-
 module _ {out out' rec rec' : Option (List ℕ)} where
   -- which statuses there are where nothing was run
   pub stopped : (P : Status → Type 0) (why : Unbegun) (status : Status) → Stops why out out' rec rec' status → P Usage → P Memory → P WriteFault → P status
@@ -206,8 +139,8 @@ module _ {out out' rec rec' : Option (List ℕ)} where
     pub tells_stopped : (script : Option (List ℕ)) (drum : Option DrumWords) (reads writes : ℕ) (why : Unbegun) (status : Status) → Stops why out out' rec rec' status → IsTrueOf words pages why
         → Tells words pages (record { before = record { script = script; out = out; rec = rec; drum = drum }; after = record { script = script; out = out'; rec = rec'; drum = drum }; reads = reads; writes = writes }) status
     tells_stopped script drum reads writes why status (inr this) right =
-        subst (Tells words pages _) (sym this.0) (inl (record { why = why; is_true = right; unread = λ xs h. h; transcript_front = this.1; record_stays = this.2 }))
+        subst (Tells words pages _) (sym this.0) (inl (record { why = why; is_true = right; unread = λ xs h. h; transcript_front = this.1; record_stays = this.2; drum_stays = refl }))
     tells_stopped script drum reads writes WrongWords status (inl this) right =
-        subst (Tells words pages _) (sym this.0) (record { unread = λ xs h. h; transcript_is = this.1; record_stays = this.2 })
+        subst (Tells words pages _) (sym this.0) (record { unread = λ xs h. h; transcript_is = this.1; record_stays = this.2; drum_stays = refl })
     tells_stopped script drum reads writes NoMemory status (inl this) right =
-        subst (Tells words pages _) (sym this.0) (record { unread = λ xs h. h; transcript_is = this.1; record_stays = this.2 })
+        subst (Tells words pages _) (sym this.0) (record { unread = λ xs h. h; transcript_is = this.1; record_stays = this.2; drum_stays = refl })

@@ -3,8 +3,8 @@ use Rattle.std.specs.Prelude.{List, String, IsSome}
 use Rattle.plain_alone.specs.Alone.{AllSeeTheirOwn}
 use Rattle.command_words.specs.declared.request.Request.{Request}
 use Rattle.command_words.specs.Words.{Ask}
-use Rattle.tenex_console.specs.Headline.{Headline, entries_of}
-use Rattle.tenex_console.specs.Observed.{Observed}
+use Rattle.script_driver.specs.RunTexts.{Headline, entries_of}
+use Rattle.script_driver.specs.Observed.{Observed}
 
 -- The words ask for a run, of which the headline holds, where the drum tells its pages; and over the entries of its record, of which the
 -- transcript has the items, each terminal that is apart sees its own work alone.

@@ -1,12 +1,7 @@
 pub mod Command
-pub mod Runs
-pub mod Verdicts
-pub mod Machines
-pub mod OverFrames
-pub mod Driving
 pub mod Booting
-pub mod Observed
 pub mod Headline
 pub mod Isolation
 pub mod Statuses
+pub mod Steady
 pub mod Memory

@@ -7,7 +7,7 @@ use Rattle.plain_model.specs.State.{opening}
 use Rattle.script_texts.specs.Entries.{FitsRecord}
 use Rattle.script_texts.specs.Follows.{Follows}
 use Rattle.page_waits.specs.Calm.{AreCalmlyFair}
-use Rattle.tenex_console.specs.Runs.{AreTaken}
+use Rattle.script_driver.specs.Runs.{AreTaken}
 use Rattle.page_waits.specs.Placed.{AreOnDrum}
 use Rattle.plain_model.specs.Run.{IsLegal, items_of, state_after}
 use Rattle.script_texts.specs.Script.{IsScript}
@@ -19,7 +19,7 @@ use Rattle.command_words.specs.declared.request.EventSource.{EventSource}
 use Rattle.command_words.specs.declared.request.EventSource.TheVariants.{Script, Generated}
 use Rattle.command_words.specs.declared.request.Request.{Request}
 use Rattle.command_words.specs.Words.{Ask}
-use Rattle.tenex_console.specs.Headline.{generated_transcript}
+use Rattle.script_driver.specs.RunTexts.{generated_transcript}
 
 -- these bytes are lines that spell the events, or the events are those of the generated script that is asked for
 abbrev pub AreSpelled : EventSource → List ℕ → List Event → Type 0

@@ -3,9 +3,9 @@ ghost use Rattle.std.specs.Prelude.{◌≡◌, ◌≤◌, IfOk, IfErr};
 ghost use Rattle.page_homes.specs.declared.homes.TheConstants.{MOST_HOMES};
 ghost use Rattle.command_words.specs.declared.request.Request.{Request as ARequest};
 ghost use Rattle.command_words.specs.declared.sizes.TheConstants.{LEAST_FRAMES, MOST_FRAMES};
+ghost use Rattle.script_driver.specs.Driving.{IsBooted};
 ghost use Rattle.tenex_console.specs.Booting.{AreNewPages};
 ghost use Rattle.tenex_console.specs.Command.{IsAsked};
-ghost use Rattle.tenex_console.specs.Driving.{IsBooted};
 ghost use Rattle.tenex_console.specs.Headline.{IsTrueOf, status_of};
 
 use command_words::{EventSource, Sizes, asked_run};

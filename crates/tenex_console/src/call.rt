@@ -1,26 +1,20 @@
 // The top call.
-ghost use Rattle.std.specs.Prelude.{◌≡◌, ◌⊎◌, ◌≤◌, ℕ, List, Some, OnOk, OnErr, false};
+ghost use Rattle.std.specs.Prelude.{◌≡◌, ◌⊎◌, ◌≤◌, ℕ, List, Some};
 ghost use Rattle.outside.specs.Faults.{Rose};
 ghost use Rattle.script_texts.specs.Script.{IsTooLong, StopsAt};
-ghost use Rattle.script_texts.specs.Taker.{StaysOnward};
 ghost use Rattle.script_texts.specs.declared.event.Event.{Event as AnEvent};
-ghost use Rattle.machine_events.specs.Outcome.{DrumStays};
-ghost use Rattle.texts.specs.Writer.{FailsAtEnd, Finishes, HandsOn, IsHandedOn, IsOnward};
+ghost use Rattle.event_items.specs.Outcome.{DrumStays};
+ghost use Rattle.script_driver.specs.Observed.{HandedOn, NoneFell, faults, seen};
+ghost use Rattle.script_driver.specs.Statuses.{Judges};
 ghost use Rattle.tenex_console.specs.Command.{Generates, IsRight, IsUsage, ReadsScript};
-ghost use Rattle.tenex_console.specs.Driving.{IsBooted};
-ghost use Rattle.tenex_console.specs.Headline.{HasHeadline, Stops};
+ghost use Rattle.tenex_console.specs.Headline.{HasFrames, HasHeadline, Stops};
 ghost use Rattle.tenex_console.specs.Isolation.{HasIsolation};
-ghost use Rattle.tenex_console.specs.Machines.{frames, limit};
-ghost use Rattle.tenex_console.specs.Observed.{AreSteady, HandedOn, IsCaused, NoneFell, faults, seen};
-ghost use Rattle.tenex_console.specs.OverFrames.{HasFrames};
-ghost use Rattle.tenex_console.specs.Statuses.{IsEarly, IsFaultless, IsOfRun, IsUsageOrBefore, Judges, RanWith, Tells};
+ghost use Rattle.tenex_console.specs.Steady.{AreSteady};
+ghost use Rattle.tenex_console.specs.Statuses.{IsEarly, IsFaultless, IsUsageOrBefore, Tells};
 
 use crate::asked::{Unbegun, asked_machine};
-use crate::driver::drive;
-use command_words::EventSource;
-use outside::{Drum, Failed, Sink, Source};
-use page_waits::System;
-use paged_events::Machine;
+use outside::{Drum, Sink, Source};
+use script_driver::{close, run};
 use std::alloc::Global;
 use texts::{Last, Status, Writer};
 
@@ -67,6 +61,7 @@ pub fn tenex<S: Source, T: Sink, R: Sink, D: Drum>(
     ensures always_usage { IsUsage words.now (D.size drum.old) → IsUsageOrBefore result }
     ensures unread { IsEarly result → script.new ≡ script.old }
     ensures untouched { IsEarly result → drum.new ≡ drum.old }
+    ensures unasked { IsUsage words.now (D.size drum.old) → drum.new ≡ drum.old }
     ensures not_asked { (seed : ℕ) → Generates words.now seed → script.new ≡ script.old }
 
     // A fault comes only where a count rose.
@@ -110,56 +105,4 @@ fn stop<T: Sink, R: Sink>(why: Unbegun, out: &mut T, rec: &mut R) -> Status
         Ok(()) => why.status(),
         Err(_) => Status::WriteFault,
     }
-}
-
-// Runs the events on a new machine.
-fn run<M: System, S: Source, T: Sink, R: Sink, D: Drum>(
-    machine: &mut Machine<M>,
-    events: EventSource,
-    script: &mut S,
-    out: &mut T,
-    rec: &mut R,
-    drum: &mut D,
-) -> Status
-    requires framed { M.means.store.flat ≡ false }
-    requires booted { IsBooted (frames machine.old) (limit machine.old) machine.old }
-    requires size { limit machine.old ≤ D.size drum.old }
-    ensures began { IsOfRun result }
-    ensures ran { RanWith events (frames machine.old) (limit machine.old) (seen S.left T.taken R.taken D.held D.read_count D.write_count script.old script.new out.old out.new rec.old rec.new drum.old drum.new) result }
-    ensures judged { (bytes : List ℕ) → events ≡ EventSource.Script → S.left script.old ≡ Some bytes → Judges result bytes }
-    ensures generated { (seed : ℕ) → events ≡ EventSource.Generated seed → (result ≡ Status.Script → ⊥) × (result ≡ Status.LongScript → ⊥) }
-    ensures unread { (seed : ℕ) → events ≡ EventSource.Generated seed → script.new ≡ script.old }
-    ensures caused { IsCaused result (faults S.fault_count T.fault_count R.fault_count D.fault_count script.old script.new out.old out.new rec.old rec.new drum.old drum.new) }
-    ensures drum { DrumStays D.fault_count D.read_count D.write_count D.size drum.old drum.new }
-    ensures handed { HandedOn T.handed_on R.handed_on T.fault_count R.fault_count out.old out.new rec.old rec.new result }
-{
-    let reads = drum.reads();
-    let writes = drum.writes();
-    let mut writer = Writer::new(out, rec);
-    let driven = drive(machine, events, script, drum, &mut writer);
-    let Some(last) = driven.last(events, drum.reads() - reads, drum.writes() - writes) else {
-        writer.give_up();
-        return Status::WriteFault;
-    };
-    match close(&mut writer, last) {
-        Ok(()) => driven.status(),
-        Err(_) => Status::WriteFault,
-    }
-}
-
-// Closes both texts. Where that fails, what the sinks still keep is handed on.
-fn close<T: Sink, R: Sink>(writer: &mut Writer<T, R>, last: Last) -> Result<(), Failed>
-    ensures cause { OnErr result (Rose writer.old.faults writer.new.faults) }
-    ensures later { writer.old.faults ≤ writer.new.faults }
-    ensures onward { StaysOnward (IsOnward T.fault_count R.fault_count) writer.old writer.new }
-    ensures handed { OnOk result (IsHandedOn T.handed_on R.handed_on writer.new) }
-    ensures tried { HandsOn T.handed_on R.handed_on T.fault_count R.fault_count writer.old writer.new }
-    ensures ok { OnOk result (Finishes T.taken R.taken last writer.old writer.new) }
-    ensures err { OnErr result (FailsAtEnd T.taken R.taken last writer.old writer.new) }
-{
-    if let Err(failed) = writer.finish(last) {
-        writer.give_up();
-        return Err(failed);
-    }
-    Ok(())
 }

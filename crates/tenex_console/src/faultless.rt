@@ -1,7 +1,8 @@
 // A run where nothing fails.
 ghost use Rattle.std.specs.Prelude.{◌≡◌, ◌⊎◌, Some};
+ghost use Rattle.script_driver.specs.Statuses.{Judges};
 ghost use Rattle.tenex_console.specs.Command.{IsRight, IsUsage, ReadsScript};
-ghost use Rattle.tenex_console.specs.Statuses.{IsFaultless, Judges};
+ghost use Rattle.tenex_console.specs.Statuses.{IsFaultless};
 
 use crate::tenex;
 use outside::{Drum, SureDrum, SureSink, SureSource};

@@ -1,9 +1,10 @@
 // A run in memory, where all is told.
 ghost use Rattle.std.specs.Prelude.{◌≡◌, ◌⊎◌, Some};
 ghost use Rattle.outside.specs.Faults.{Rose};
+ghost use Rattle.script_driver.specs.Statuses.{Judges};
 ghost use Rattle.tenex_console.specs.Command.{IsRight, IsUsage, ReadsScript};
 ghost use Rattle.tenex_console.specs.Memory.{HeadlineInBytes};
-ghost use Rattle.tenex_console.specs.Statuses.{IsFaultless, IsUsageOrBefore, Judges};
+ghost use Rattle.tenex_console.specs.Statuses.{IsFaultless, IsUsageOrBefore};
 
 use crate::tenex;
 use outside::{Drum, MemSink, Sink, SureDrum, SureSource};

@@ -1,17 +1,14 @@
 //! The emulator: a console script is run, or a generated one, and its transcript and its record are written.
 //! To the layers above both texts are those of the plain machine, and each status has its cause.
-//! Stands on `paged_events` for the machine, on `paged_system` for its system, on `known_slots` and `paged_store` for its pages,
-//! on `script_lang` for the script and on `texts` for both texts.
+//! Stands on `script_driver` for the driving of the machine and both texts, on `paged_events` for the machine, on `paged_system` for its
+//! system, and on `known_slots` and `paged_store` for its pages.
 #![tactic(auto)]
 
 mod asked;
 mod call;
-mod driver;
 mod faultless;
-mod generated;
 mod in_memory;
 mod laws;
-mod lines;
 
 pub use call::tenex;
 pub use faultless::run_faultless;

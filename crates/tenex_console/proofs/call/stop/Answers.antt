@@ -3,8 +3,9 @@ use Rattle.texts.specs.declared.last.Last.TheVariants.{Stopped}
 use Rattle.texts.specs.declared.last.Status.TheVariants.{WriteFault}
 use Rattle.texts.specs.Writer.{FailsAtEnd, Finishes}
 use Rattle.texts.proofs.Starts.{onward_start}
+use Rattle.script_driver.proofs.Closing.{moved}
 use Rattle.tenex_console.specs.Headline.{Stops}
-use Rattle.tenex_console.proofs.Closing.{moved, stopped, unstopped}
+use Rattle.tenex_console.proofs.Stopping.{stopped, unstopped}
 use Rattle.tenex_console.proofs.call.stop.Goals as goal
 
 pub returns-in-Ok-clause-stops : goal.returns-in-Ok-clause-stops

@@ -1,8 +1,9 @@
 use Rattle.std.proofs.Common.{◌≡◌, ◌∙◌, arith, refl, subst, sym}
 use Rattle.texts.specs.declared.last.Status.TheVariants.{Done, Script, DrumFault, ReadFault, LongScript}
+use Rattle.script_driver.specs.Statuses.{Judges, Ran}
 use Rattle.tenex_console.specs.Command.{IsAsked}
 use Rattle.tenex_console.specs.Headline.{IsTrueOf}
-use Rattle.tenex_console.specs.Statuses.{IsEarly, IsUsageOrBefore, Judges, Ran}
+use Rattle.tenex_console.specs.Statuses.{IsEarly, IsUsageOrBefore}
 use Rattle.tenex_console.proofs.Isolation.{isolated}
 use Rattle.tenex_console.proofs.Asking.{asks_generated, asks_script, not_usage}
 use Rattle.tenex_console.proofs.Statuses.{complete_run, faultless, late, never_passed, never_short, ran_asked, stopped, tells_ran, tells_stopped, usage_true}
@@ -46,6 +47,11 @@ returns-in-Ok-clause-usage g c is = absurd (late c.run.result c.run.ensures.bega
 
 pub returns-in-Ok-clause-always_usage : goal.returns-in-Ok-clause-always_usage
 returns-in-Ok-clause-always_usage g c usage =
+    let asked = c.in-Ok.ensures.booted in
+    absurd (not_usage c.args.words.now (g.D.Drum.size c.args.drum.now) asked.0 (subst (λ n. IsAsked c.args.words.now n asked.0) c.pages.ensures asked.1) usage)
+
+pub returns-in-Ok-clause-unasked : goal.returns-in-Ok-clause-unasked
+returns-in-Ok-clause-unasked g c usage =
     let asked = c.in-Ok.ensures.booted in
     absurd (not_usage c.args.words.now (g.D.Drum.size c.args.drum.now) asked.0 (subst (λ n. IsAsked c.args.words.now n asked.0) c.pages.ensures asked.1) usage)
 
