@@ -1,12 +1,12 @@
 // One run over objects in memory.
-use crate::same::{same, same_at};
-use outside::{Drum, MemSink, MemSource, Memory, Source, SureDrum};
+use crate::same::same;
+use outside::{Drum, MemSink, Memory, Sink, Source, SureDrum, SureSource};
 use std::alloc::{AllocError, Global};
 use std::process::Abort;
 use tenex_console::{Status, tenex};
 
 /// How many bytes a text has at most here.
-pub const ROOM: usize = 1 << 18;
+const ROOM: usize = 1 << 18;
 
 /// How many pages the drum has to have.
 pub const PAGES: u32 = 2048;
@@ -37,28 +37,34 @@ pub(crate) fn words_of(alloc: Global, texts: &[&str]) -> Result<Vec<String>, All
     Ok(words)
 }
 
-/// A source that gives these bytes.
-pub(crate) fn source(alloc: Global, bytes: &[u8]) -> Result<MemSource, Memory> {
-    Ok(MemSource::new(Vec::from_slice(alloc, bytes)?, Vec::new(alloc)))
-}
-
 /// A sink with this room.
 pub(crate) fn sink(alloc: Global, room: usize) -> Result<MemSink, Memory> {
     MemSink::new(alloc, room, Vec::new(alloc))
 }
 
-/// Runs a command over a source, two sinks and a drum of so many pages.
-pub(crate) fn run_over<S: Source>(
+/// Runs a command. Each type is a parameter, so that no clause is written out over the objects of a run.
+fn status_of<S: Source, T: Sink, R: Sink, D: Drum>(
+    alloc: Global,
+    words: &[String],
+    script: &mut S,
+    (out, rec): (&mut T, &mut R),
+    drum: &mut D,
+) -> Status {
+    tenex(alloc, words, script, out, rec, drum)
+}
+
+/// Runs a command over a source and a drum of so many pages.
+fn run_over<S: Source>(
     alloc: Global,
     texts: &[&str],
     script: &mut S,
-    mut out: MemSink,
-    mut rec: MemSink,
     pages: u32,
 ) -> Result<Ran, Memory> {
     let words = words_of(alloc, texts)?;
+    let mut out = sink(alloc, ROOM)?;
+    let mut rec = sink(alloc, ROOM)?;
     let mut drum = SureDrum::new(alloc, pages)?;
-    let status = tenex(alloc, &words, script, &mut out, &mut rec, &mut drum);
+    let status = status_of(alloc, &words, script, (&mut out, &mut rec), &mut drum);
     Ok(Ran {
         status,
         out,
@@ -67,11 +73,9 @@ pub(crate) fn run_over<S: Source>(
     })
 }
 
-/// Runs a source that may fail.
+/// Runs the script that a source gives.
 pub(crate) fn run_source<S: Source>(alloc: Global, script: &mut S) -> Result<Ran, Memory> {
-    let out = sink(alloc, ROOM)?;
-    let rec = sink(alloc, ROOM)?;
-    run_over(alloc, &["run"], script, out, rec, PAGES)
+    run_over(alloc, &["run"], script, PAGES)
 }
 
 /// Runs a script by these words, over a drum of so many pages.
@@ -81,10 +85,8 @@ pub(crate) fn run_words(
     script: &[u8],
     pages: u32,
 ) -> Result<Ran, Memory> {
-    let mut script = source(alloc, script)?;
-    let out = sink(alloc, ROOM)?;
-    let rec = sink(alloc, ROOM)?;
-    run_over(alloc, texts, &mut script, out, rec, pages)
+    let mut script = SureSource::new(Vec::from_slice(alloc, script)?);
+    run_over(alloc, texts, &mut script, pages)
 }
 
 /// Runs a script.
@@ -103,22 +105,6 @@ pub(crate) fn assert_ended(
     same(rt, ran.status, status);
     same(rt, ran.out.bytes(), transcript);
     same(rt, ran.rec.bytes(), record);
-}
-
-/// The run of a row ended with this status and exactly these texts, each given as its front and the rest.
-pub(crate) fn assert_ended_at(
-    rt: &impl Abort,
-    row: usize,
-    ran: &Ran,
-    status: Status,
-    transcript: (&[u8], &[u8]),
-    record: (&[u8], &[u8]),
-) {
-    same_at(rt, row, ran.status, status);
-    let shown = ran.out.bytes().strip_prefix(transcript.0);
-    same_at(rt, row, shown, Some(transcript.1));
-    let recorded = ran.rec.bytes().strip_prefix(record.0);
-    same_at(rt, row, recorded, Some(record.1));
 }
 
 /// Runs a script to its end, which gives exactly these texts and never asks the drum.
