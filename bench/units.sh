@@ -11,15 +11,19 @@ source "$(dirname "$0")/program.inc"
 millions=${1:-20}
 failed=0
 
-# What each loop pokes at terminal 0, an address and a word a pair. It runs from 1100 on, and its words are in page 5.
+# What each loop pokes at terminal 0, an address and a word a pair. It runs from 1100 on, and its words are in page 5, those of
+# the sixth in pages 5 and 6. PBOUT prints one letter in each second unit.
 declare -A loops=(
     ['JRST 1100']='1100 254000001100'
     ['AOS 0(2); ADD 2,4; SOJG 3,1100']='2 5000 3 377777777777 1100 350002000000 1101 270100000004 1102 367140001100 5000 0'
     ['MOVE, ADD, MOVEM, JRST']='1100 200040005000 1101 270040005001 1102 202040005002 1103 254000001100 5000 1'
     ['MOVE, ILDB, HLRZ, TRNN, JRST']='1100 200100005000 1101 134040000002 1102 554140000001 1103 606140000001 1104 254000001100 5000 440700005001'
     ['PUSHJ, PUSH, POP, POPJ, JRST']='17 777000005077 1100 260740001110 1101 254000001100 1110 261740005000 1111 262740005001 1112 263740000000 5000 1'
+    ['MOVE, ADD, MOVEM, MOVEM, JRST, two pages']='1100 200040005000 1101 270040006000 1102 202040005001 1103 202040006001 1104 254000001100 5000 1 6000 2'
+    ['PBOUT, JRST']='1 101 1100 104000000074 1101 254000001100'
 )
-order=('JRST 1100' 'AOS 0(2); ADD 2,4; SOJG 3,1100' 'MOVE, ADD, MOVEM, JRST' 'MOVE, ILDB, HLRZ, TRNN, JRST' 'PUSHJ, PUSH, POP, POPJ, JRST')
+order=('JRST 1100' 'AOS 0(2); ADD 2,4; SOJG 3,1100' 'MOVE, ADD, MOVEM, JRST' 'MOVE, ILDB, HLRZ, TRNN, JRST' 'PUSHJ, PUSH, POP, POPJ, JRST'
+    'MOVE, ADD, MOVEM, MOVEM, JRST, two pages' 'PBOUT, JRST')
 
 # A program by which pages 1 and 5 stand at the end of chains of four entries: pages 1 to 4 follow one another, and so
 # do pages 5 to 8. MOVE 1,200; MOVE 2,201; MOVE 3,202; PMAP, three pages in as many units; the same with 203 and 204;

@@ -27,7 +27,7 @@ shown() {
 
 # Each example with 160 frames, of which every one is evicted before each RUN. Its record replays to its transcript, so all that it shows is
 # what a machine without frames shows. That is the transcript of the example too, but for these, in which one sees whose turn it is.
-by_turns=' auto_off fork_call_rows freeze frozen_while_waiting halt_waiting killed killed_while_waiting lesson_waits rescued_page scheduler shared_page_away '
+by_turns=' auto_off fork_call_rows freeze frozen_while_waiting halt_waiting killed killed_while_holding killed_while_waiting lesson_waits rescued_page scheduler shared_page_away '
 every=$(seq -f 'EVICT %g' 0 159)
 examples=0
 for script in "$top"/examples/*.script "$top"/examples/*/*.script; do

@@ -1,7 +1,7 @@
 """Whether the comments of the examples fit their words: a comment '; ADDRESS  INSTRUCTION' or '; ADDRESS  WORD' stands for the word
 that the next POKE or WORDS puts at that address. Each example opens with a comment, and one that starts a program has its instructions in comments.
-Whether the index of docs/MACHINE.md has their numbers, and the instruction table their names at their opcodes. Status 1: something
-does not fit, and each was printed.
+Whether the index of docs/MACHINE.md has their numbers, and its tables the bits of words in octal; whether the tables of docs/DIFFERENCES.md
+have each of them, and the instruction table their names at their opcodes. Status 1: something does not fit, and each was printed.
 """
 import glob
 import re
@@ -77,6 +77,40 @@ def compare_index(document):
             fail(f"the index of {document} lacks {name} {opcode:o}")
 
 
+def compare_bits(document):
+    """The bits of words in octal: of both halves, of the access in a word, and of the channels."""
+    with open(document, encoding="utf-8") as file:
+        text = file.read()
+    halves = re.findall(r"(?<=\| )(\d+): ([0-7]{6})(?= \|)", text)
+    access = [(n, half) for half, n in re.findall(r"^\| ([0-7]{6}) \| (\d+) \|", text, re.M)]
+    rows = re.findall(r"^\| ([\d, to]+) \| ((?:`[0-7]{1,6},,[0-7]{1,6}`(?:, | to |(?= \|)))+) \|", text, re.M)
+    channels = [(n, left if int(n) < 18 else right) for numbers, words in rows
+                for n, (left, right) in zip(re.findall(r"\d+", numbers), re.findall(r"`(\w+),,(\w+)`", words), strict=True)]
+    if (len(halves), len(access), len(rows)) != (36, 6, 10):
+        fail(f"{document} has {len(halves)} bits of words, {len(access)} of access, and {len(rows)} rows of channels with bits")
+    for number, half in halves + access + channels:
+        if int(half, 8) != 1 << 17 - int(number) % 18:
+            fail(f"{document} has {half} for bit {number}")
+
+
+def compare_differences(document):
+    """The tables by call and by instruction: each call stands once, and each instruction by its name or by how it begins."""
+    with open(document, encoding="utf-8") as file:
+        calls, processor = re.search(r"^## The calls$(.*?)^## The processor$(.*?)^## ", file.read(), re.M | re.S).groups()
+    named = re.findall(r"[A-Z]+", " ".join(re.findall(r"^\| ([A-Z, ]+) \|", calls, re.M)))
+    for name in sorted(names.CALLS.keys() | set(named)):
+        if name not in names.CALLS or named.count(name) != 1:
+            fail(f"{document} has the call {name} {named.count(name)} times")
+    for path, text in ((document, f"All {len(names.CALLS)} calls"), ("README.md", f"with {len(names.CALLS)} of its calls")):
+        with open(path, encoding="utf-8") as file:
+            if text not in file.read():
+                fail(f"{path} does not say {text!r}")
+    begins = set(re.findall(r"\b[A-Z]{2,6}\b", " ".join(re.findall(r"^\| ([^|]+) \|", processor, re.M))))
+    for name in names.OPCODES:
+        if not any(name[:n] in begins for n in range(2, len(name) + 1)):
+            fail(f"{document} lacks {name}")
+
+
 def compare_rows(table):
     """The comments of the instruction table: behind each line of rows its first opcode, and the names of its instructions."""
     with open(table, encoding="utf-8") as file:
@@ -98,6 +132,8 @@ def main():
         comments += compare(path, lines)
         calls_are_named(path, lines)
     compare_index("docs/MACHINE.md")
+    compare_bits("docs/MACHINE.md")
+    compare_differences("docs/DIFFERENCES.md")
     compare_rows("crates/ka10_table/src/rows.rt")
     if failures:
         sys.exit(1)

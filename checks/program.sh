@@ -263,7 +263,8 @@ grep -q '^tenex: standard output: ' "$work/messages" || fail "a transcript that 
 fresh
 cases=$((cases + 1))
 coproc person { cd "$work/at" && exec "$program" run; }
-person_reads=${person[0]} person_writes=${person[1]}
+# (kept, since both are unset once it has ended)
+person_reads=${person[0]} person_writes=${person[1]} person_is=$person_PID
 # answers TEXT BYTES: behind a line that is typed the program writes these bytes, before any other line.
 answers() {
     local found
@@ -275,7 +276,7 @@ answers 'LOGIN 0 A\n' 'T0 @'
 answers '; a comment\nFORKS 0\n' '\nF 0 1 0 HALT PC 000000'
 answers 'START 3 100\n' '\n?NO JOB 3'
 exec {person_writes}>&-
-wait "$person_PID" || fail "a person who ends the script: status $?"
+wait "$person_is" || fail "a person who ends the script: status $?"
 
 said=
 fresh

@@ -1,4 +1,4 @@
-"""Which files of definitions the headline of `run` rests on, worked out from the definitions, and whether docs/PROMISES.md says so.
+"""Which files of definitions the headline of `run` rests on, worked out from the definitions, and whether docs/PROMISES.md and README.md say so.
 
 A definition reaches each name that it uses: of its own file, or of a file of specs that its file takes the name from. The types and
 constants of the code (`declared`) are counted, and end the way. What the headline of `big` adds is told beside it. Status 1: the document
@@ -11,8 +11,8 @@ import sys
 
 # What the clause `headline` names.
 HEADLINE = (("tenex_console", "Headline"), "HasHeadline")
-SEEN = (("tenex_console", "Observed"), "seen")
-OF_BIG = (("tenex_console", "Headline"), "RunsGenerated")
+SEEN = (("script_driver", "Observed"), "seen")
+OF_BIG = (("script_driver", "RunTexts"), "RunsGenerated")
 BESIDE_OTHERS = (("tenex_console", "Isolation"), "HasIsolation")
 WORD = re.compile(r"[A-Za-z_◌][A-Za-z0-9_'◌]*|[^\sA-Za-z0-9_(){}\[\],.;:\"']+")
 TAKES = re.compile(r"use Rattle\.([a-z0-9_]+)\.specs\.([A-Za-z0-9_.]+?)(?:\.\{(.*)\}| as (\S+))?\s*$")
@@ -192,6 +192,13 @@ def compare(wanted, said):
         fail(f"docs/PROMISES.md does not say 'these {count} files'")
 
 
+def is_about(document, what, text, is_now):
+    """Whether a document's number is that of now, but for a twentieth."""
+    number = int(text.replace(",", ""))
+    if abs(number - is_now) * 20 > is_now:
+        fail(f"{document} says {number} {what}, and there are {is_now}")
+
+
 def main():
     files = read_files()
     reached = reach(files, (OF_BIG,))
@@ -211,9 +218,10 @@ def main():
     compare(wanted, part)
     said = re.search(r"some ([\d,]+) definitions of ([\d,]+) lines.* and some ([\d,]+) types and constants", part)
     for what, is_now, text in zip(("definitions", "lines", "types and constants"), (len(reached), lines, len(declared)), said.groups() if said else ("0",) * 3):
-        number = int(text.replace(",", ""))
-        if abs(number - is_now) * 20 > is_now:
-            fail(f"docs/PROMISES.md says {number} {what}, and there are {is_now}")
+        is_about("docs/PROMISES.md", what, text, is_now)
+    with open("README.md", encoding="utf-8") as file:
+        said = re.search(r"([\d,]+) lines of definitions", file.read())
+    is_about("README.md", "lines of definitions", said[1] if said else "0", lines)
 
     if failures:
         sys.exit(1)

@@ -17,6 +17,8 @@ import names
 import texts
 
 PAGE = "view/record.html"
+# so many characters of a terminal are shown
+LONGEST_SCREEN = 8000
 failures = 0
 
 
@@ -28,7 +30,7 @@ def fail(text):
 
 def expect(what, found, wanted):
     if found != wanted:
-        fail(f"{what}: {found!r} instead of {wanted!r}")
+        fail(f"{what}: {found!r:.300} instead of {wanted!r:.300}")
 
 
 def has(what, text, *parts):
@@ -84,7 +86,7 @@ def check_examples(page):
         page.load(*example(name))
         expect(name + ": the error", page.text("error"), "")
         for terminal, text in screens_of(record.replace(".record", ".transcript")).items():
-            expect(f"{name}: terminal {terminal} at the end", page.screen(terminal), [text[-8000:], ""])
+            expect(f"{name}: terminal {terminal} at the end", page.screen(terminal), [text[-LONGEST_SCREEN:], ""])
         expect(name + ": bounds in order", page.value("!atoms || atoms.every(it => it.first <= it.last && it.last <= run.count)"), True)
         expect(name + ": units", page.value("lanes.reduce((sum, lane) => sum + lane.units, 0)"),
                sum(it.count for it in texts.entries_of(texts.read(record)) if it.kind == "units"))

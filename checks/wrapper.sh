@@ -19,9 +19,9 @@ fail() {
 [ -x "$program" ] || exit 1
 
 # A copy of the wrapper over the source of the usage, with nothing built, and an rt that only says so.
-mkdir -p "$work/alone/crates/tenex/src" "$work/bin"
+mkdir -p "$work/alone/crates/tenex" "$work/alone/crates/host_side/src" "$work/bin"
 cp "$top/tenex" "$work/alone/tenex"
-cp "$top/crates/tenex/src/messages.rt" "$work/alone/crates/tenex/src"
+cp "$top/crates/host_side/src/messages.rt" "$work/alone/crates/host_side/src"
 printf '#!/bin/sh\necho "rt is asked" >&2\nexit 99\n' >"$work/bin/rt"
 chmod +x "$work/bin/rt"
 
@@ -66,7 +66,7 @@ handed_on() {
 same_answer
 same_answer help
 same_answer --help
-grep -q 'after one to two minutes' "$work/found/messages" || fail "help doesn't say how long a run takes"
+grep -q 'after two to four minutes' "$work/found/messages" || fail "help doesn't say how long a run takes"
 same_answer ''
 same_answer help ''
 same_answer help me
@@ -181,7 +181,7 @@ handed_on big --frames 160 007
 handed_on big --frames=160 999999999 --drum 256
 handed_on run
 said 'The transcript comes'
-said 'no tenex.record is kept'
+said 'No tenex.record is kept'
 handed_on run --frames 160
 handed_on run --frames 8192 --drum 16384
 handed_on run --drum=256 --frames=000000160
