@@ -74,7 +74,7 @@ class Lanes:
             if fork:
                 yield box(x, self.y(fork) + 20, wide, LANE - 26, FORK, f"T{fork[0]} fork {fork[1]}: {count} units in {turns}")
                 continue
-            yield box(x, TOP, wide, self.bottom - TOP, "url(#idle)", f"{count} idle in {turns}: no fork could run")
+            yield box(x, TOP, wide, self.bottom - TOP, "url(#idle)", f"{count} idle in {turns}: no fork was ready")
             if wide > LETTER * (6 + len(str(count))):
                 yield text(x + wide / 2, self.bottom + 14, f"{count} idle", ' text-anchor="middle"')
 

@@ -203,13 +203,17 @@ def names_of_std(files, reached):
     return {other: sorted(names) for other, names in sorted(found.items())}
 
 
-def complain(placed, reached, wanted, all_code):
-    """Ends where a file that is needed stands in no chapter."""
+def complain(book, reached, wanted, all_code):
+    """Ends where a file that is needed stands in no chapter, or one of which nothing is needed stands in one."""
+    placed = {entry.place for entry in book.entries}
+    idle = [part.path for chapter in book.chapters for part in chapter.parts if not part.entries]
+    for path in idle:
+        print(f"make.py: docs/book/chapters.txt has {path}, of which no definition is reached", file=sys.stderr)
     missing = {f"{crate}: {file}" for (crate, file), _ in reached - placed}
     missing |= {f"{crate} code: {all_code.items[crate, name].module}" for crate, name in wanted - placed}
     for line in sorted(missing):
         print(f"make.py: docs/book/chapters.txt needs the line '{line}' in a chapter", file=sys.stderr)
-    if missing:
+    if missing or idle:
         sys.exit(1)
 
 
@@ -239,6 +243,6 @@ def read(path):
         for place, entry in enumerate((entry for part in chapter.parts for entry in part.entries), 1):
             entry.number = f"{number}.{place}"
     book = Book(chapters, names_of_std(files, reached), shares)
-    complain({entry.place for entry in book.entries}, set(reached), wanted, all_code)
+    complain(book, set(reached), wanted, all_code)
     link(book.entries, Names(files, all_code, book.entries))
     return book

@@ -4,7 +4,7 @@ import textwrap
 import wording
 
 WIDTH = 100
-INDENT = " " * 6
+INDENT = " " * 7
 
 
 def wrapped(text, first="", rest=""):
@@ -24,14 +24,14 @@ def numbered(word, entries, more=0):
 
 
 def definition(entry):
-    lines = wrapped(entry.comment, f"{entry.number:<6}", INDENT) or [entry.number]
+    lines = wrapped(entry.comment, entry.number.ljust(len(INDENT)), INDENT) or [entry.number]
     for line in [*entry.within, *entry.lines]:
         lines += code_line(line)
     return [*lines, *numbered("uses", entry.uses), *numbered("used by", *wording.users(entry)), ""]
 
 
 def constant(entry):
-    return wrapped(f"{wording.constant(entry)}   {entry.comment}", f"{entry.number:<6}", INDENT + "  ")
+    return wrapped(f"{wording.constant(entry)}   {entry.comment}", entry.number.ljust(len(INDENT)), INDENT + "  ")
 
 
 def part_lines(part):
