@@ -1,5 +1,6 @@
 pub mod Plainly
 pub mod Adding
+pub mod AtHand
 pub mod Referring
 pub mod Seeing
 pub mod Leading

@@ -4,6 +4,7 @@
 #![tactic(auto)]
 
 mod addresses;
+mod at_hand;
 mod carry;
 mod ends;
 mod laws;
