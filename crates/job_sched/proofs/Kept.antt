@@ -146,6 +146,7 @@ module _ (r : Rows) (numbers : Order) (spots : List Waiter) (places seats : List
           few = kept.few;
           full = omega arith;
           timed = omega arith;
+          idle = omega arith;
         };
         view =
             schedule_is (map g (row (moved r p 2) 2)) (map g xs ++ g p ∷ []) (map (λ q. (spot spots q).fork) (row (moved r p 2) 1)) (map (λ q. (spot spots q).fork) (row r 1))
@@ -190,6 +191,7 @@ module _ (r : Rows) (numbers : Order) (spots : List Waiter) (places seats : List
           few = kept.few;
           full = omega arith;
           timed = omega arith;
+          idle = omega arith;
         };
         view =
             schedule_is (map g (row (moved r p 1) 2)) (map g xs) (map h (row (moved r p 1) 1)) (map h (row r 1) ++ h p ∷ [])
@@ -260,6 +262,7 @@ module _ (r : Rows) (numbers : Order) (spots : List Waiter) (places seats : List
           few = kept.few;
           full = omega arith;
           timed = kept.timed;
+          idle = let idle = kept.idle in omega arith;
         };
         view =
             schedule_is (map g' (row (moved r p 2) 2)) (map g (row r 2) ++ record { fork = h p; seat = k } ∷ []) (map h' (row (moved r p 2) 1)) (map h xs)
@@ -310,6 +313,7 @@ module _ (r : Rows) (numbers : Order) (spots : List Waiter) (places seats : List
           few = kept.few;
           full = omega arith;
           timed = omega arith;
+          idle = omega arith;
         };
         view =
             schedule_is (map g' (row (moved r p 3) 2)) (map g xs) (map h' (row (moved r p 3) 1)) (map h (row r 1))
@@ -351,6 +355,7 @@ module _ (r : Rows) (numbers : Order) (spots : List Waiter) (places seats : List
           few = kept.few;
           full = omega arith;
           timed = kept.timed;
+          idle = let idle = kept.idle in omega arith;
         };
         view =
             schedule_is (map g (row (moved r p 2) 2)) (map g (row r 2) ++ g p ∷ []) (map h (row (moved r p 2) 1)) (map h (row r 1))
@@ -388,6 +393,7 @@ module _ (r : Rows) (numbers : Order) (spots : List Waiter) (places seats : List
           few = kept.few;
           full = omega arith;
           timed = kept.timed;
+          idle = let idle = kept.idle in omega arith;
         };
         view =
             schedule_is (map g (row (moved r p 3) 2)) (map g (row r 2)) (map h (row (moved r p 3) 1)) (map h (row r 1))

@@ -1,5 +1,5 @@
 -- A fork that leaves.
-use Rattle.std.proofs.Common.{◌≡◌, ◌≢◌, ℕ, zero, suc, ◌+◌, ◌<◌, ◌≤◌, ◌==◌, inl, inr, List, [], ◌∷◌, ◌++◌, length, map, filter, Bool, true, false, not, ◌||◌, if◌then◌else◌, Option, None, Some, slice_get, slice_index, slice_index_or, set, refl, sym, ◌∙◌, ap, subst, arith, length-append}
+use Rattle.std.proofs.Common.{◌≡◌, ◌≢◌, ℕ, zero, suc, ◌+◌, ◌*◌, ◌<◌, ◌≤◌, ◌==◌, inl, inr, List, [], ◌∷◌, ◌++◌, length, map, filter, Bool, true, false, not, ◌||◌, if◌then◌else◌, Option, None, Some, slice_get, slice_index, slice_index_or, set, refl, sym, ◌∙◌, ap, subst, arith, length-append}
 use Rattle.std.proofs.lemmas.Bool.{cases_eq}
 use Rattle.std.proofs.lemmas.List.{append-nil, map-append, length-set, get_or-set_same, get_or-set_other}
 use Rattle.std.specs.Option.{is_some}
@@ -53,6 +53,14 @@ or_left false b e = absurd cc
 or_right : (a b : Bool) → b ≡ true → (a || b) ≡ true
 or_right true b e = refl
 or_right false b e = e
+
+-- where another than the head leaves, somebody is ready still
+idle_left : (used p : ℕ) (xs : List ℕ) → is_at (slice_get xs 0) p ≡ false → used < QUANTUM → used ≤ QUANTUM * length xs → used ≤ QUANTUM * length (without p xs)
+idle_left used p [] other timed idle = idle
+idle_left used p (x ∷ xs) other timed idle =
+    let stays : without p (x ∷ xs) ≡ x ∷ without p xs = ap (λ (b : Bool). if not b then x ∷ without p xs else without p xs) (eq_sym p x ∙ other) in
+    let long = ap length stays in
+    omega arith
 
 -- whether the fork heads the ready list, by its place
 heads_at : (f : ForkName) (spots : List Waiter) (p : ℕ) (xs : List ℕ) → ((q : ℕ) → stands_in q xs ≡ true → same_fork f (spot spots q).fork ≡ (p == q))
@@ -129,6 +137,7 @@ module _ (r : Rows) (numbers : Order) (spots : List Waiter) (places seats : List
           few = kept.few;
           full = omega arith;
           timed = kept.timed;
+          idle = let idle = kept.idle in omega arith;
         };
         view = left_view numbers.order used
             (sym (ap (λ (ms : List Member). numbers.order ++ map (λ m. m.seat) ms) none ∙ append-nil numbers.order))
@@ -169,6 +178,13 @@ module _ (r : Rows) (numbers : Order) (spots : List Waiter) (places seats : List
   within true used' is = let timed = kept.timed in omega arith
   within false used' is = let timed = kept.timed in omega arith
 
+  idles : (b : Bool) (used' : ℕ) → is_at (slice_get (row r 2) 0) p ≡ b → used' ≡ (if b then 0 else used) → used' ≤ QUANTUM * length (row (moved r p 0) 2)
+  idles true used' at is = omega arith
+  idles false used' at is =
+      let left = ap length (row_there r p 0 2 (λ e. absurd (omega arith))) in
+      let idle = idle_left used p (row r 2) at kept.timed kept.idle in
+      omega arith
+
   -- a member leaves
   pub left_member : (k : ℕ) → 2 ≤ k → k < 4 → stands_in p (row r k) ≡ true → IsRows (moved r p 0) → (used' : ℕ) → used' ≡ (if is_at (slice_get (row r 2) 0) p then 0 else used)
       → Becomes (moved r p 0) (record numbers { order = numbers.order ++ (spot spots p).seat ∷ [] }) spots places seats used' (left (schedule_of r spots numbers.order used) f)
@@ -201,6 +217,7 @@ module _ (r : Rows) (numbers : Order) (spots : List Waiter) (places seats : List
           few = kept.few;
           full = omega arith;
           timed = within (is_at (slice_get (row r 2) 0) p) used' used_is;
+          idle = idles (is_at (slice_get (row r 2) 0) p) used' refl used_is;
         };
         view = left_view (numbers.order ++ (spot spots p).seat ∷ []) used'
             (sym (ap (λ (ms : List Member). numbers.order ++ map (λ m. m.seat) ms) one)) used_is;
@@ -338,6 +355,7 @@ module _ (r : Rows) (numbers : Order) (spots : List Waiter) (places seats : List
           few = kept.few;
           full = omega arith;
           timed = kept.timed;
+          idle = let idle = kept.idle in omega arith;
         };
         view =
             schedule_is (map g' (row (moved r p 1) 2)) (map g (row r 2)) (map h' (row (moved r p 1) 1)) (map h (row r 1) ++ f ∷ [])

@@ -185,6 +185,7 @@ kept_empty n set r numbers spots places seats rows_are places_are numbers_are fe
       few = few;
       full = let long = length-up set in omega arith;
       timed = omega arith;
+      idle = omega arith;
     }))
 
 pub view_empty : (n set : ℕ) (r : Rows) (numbers : Order) (spots : List Waiter) → r ≡ record { numbers = n; rows = up_to n ∷ [] ∷ [] ∷ [] ∷ [] }

@@ -54,7 +54,7 @@ pub record AreNamed (r : Rows) (spots : List Waiter) (places : List ℕ) : Type 
   pub inside : (i : ℕ) → slice_index places i < all_places
   pub placed : (k p : ℕ) → 1 ≤ k → stands_in p (row r k) ≡ true → IsPlaced spots places p
 
--- besides, each place of a ready or a waiting fork has a number
+-- besides, each place of a ready or a waiting fork has a number, and where none is ready, no unit of a quantum is used
 pub record IsKept (r : Rows) (numbers : Order) (spots : List Waiter) (places seats : List ℕ) (used : ℕ) : Type 0 where
   pub names : AreNamed r spots places
   pub all_seats : length seats ≡ numbers.frames
@@ -65,6 +65,7 @@ pub record IsKept (r : Rows) (numbers : Order) (spots : List Waiter) (places sea
   pub some : 1 ≤ numbers.frames
   pub few : numbers.frames ≤ 63
   pub timed : used < QUANTUM
+  pub idle : used ≤ QUANTUM * length (row r (number Ready))
 
 -- a fork stands at a place, and that isn't free
 pub record IsThere (r : Rows) (spots : List Waiter) (f : ForkName) (p : ℕ) : Type 0 where

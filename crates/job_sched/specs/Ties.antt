@@ -40,7 +40,7 @@ abbrev pub AreApart : Schedule → Type 0
 AreApart s = AreOnce (forks_of s)
 
 -- what is so of every schedule that a `Sched` is: a fork stands in one place, no more stand than there may be forks, the set may have 1 to 63
--- members, each has a number of its own below that, and the head has units left
+-- members, each has a number of its own below that, the head has units left, and where nobody is ready none is used
 pub record IsSound (s : Schedule) : Type 0 where
   pub apart : AreApart s
   pub few : count s ≤ TERMINALS * MOST_FORKS
@@ -49,6 +49,7 @@ pub record IsSound (s : Schedule) : Type 0 where
   pub seats : IsOnce (seats_of s)
   pub numbered : (k : ℕ) → stands_in k (seats_of s) ≡ true → k < size s
   pub timed : IsTimed s
+  pub idle : s.ready ≡ [] → s.used ≡ 0
 
 -- with a fork more outside
 abbrev pub with_outside : Schedule → ForkName → Schedule

@@ -7,7 +7,7 @@ use Rattle.machine_names.specs.declared.names.ForkName.{ForkName}
 use Rattle.page_contracts.specs.declared.store.TheConstants.{CONSOLE_HOLDER}
 use Rattle.page_contracts.specs.Stores.{Loses, Traffic, letting_go}
 use Rattle.page_waits.specs.declared.holders.Holders.{Holders}
-use Rattle.page_waits.specs.Holders.{AreAll, AreMembers, AreReleased, holder_at}
+use Rattle.page_waits.specs.Holders.{AreAll, AreMembers, AreReleased, AreUnheld, holder_at}
 
 module _ (h : Holders) where
   -- whoever was lost, and whatever was let go, those for whom something is held are among these
@@ -97,3 +97,40 @@ all_seats forks set member holds below owned before k apart none = by (member k)
     by : (o : Option ForkName) → member k ≡ o → holds k ≡ []
     by None is = owned k apart is
     by (Some f) is = before k (below k f is) apart none
+
+-- ---- that nothing is held for any seat
+
+pub unheld_same : (old new : ℕ → List ℕ) → new ≡ old → AreUnheld old → AreUnheld new
+unheld_same old new is none seat apart = ap (λ (hs : ℕ → List ℕ). hs seat) is ∙ none seat apart
+
+pub unheld_let_go : (holder : ℕ) (old new : ℕ → List ℕ) → new ≡ letting_go old holder → AreUnheld old → AreUnheld new
+unheld_let_go holder old new is none seat apart = ap (λ (hs : ℕ → List ℕ). hs seat) is ∙ by (seat == holder)
+  where
+    by : (b : Bool) → cond b [] (old seat) ≡ []
+    by true = refl
+    by false = none seat apart
+
+-- one seat more, for which nothing is held
+pub unheld_more : (seat : ℕ) (holds : ℕ → List ℕ) → length (holds seat) ≡ 0 → ((k : ℕ) → k < seat → k ≢ CONSOLE_HOLDER → holds k ≡ []) → (k : ℕ) → k < seat + 1 → k ≢ CONSOLE_HOLDER → holds k ≡ []
+unheld_more seat holds nothing before k low apart = by (k == seat) refl
+  where
+    empty : (xs : List ℕ) → length xs ≡ 0 → xs ≡ []
+    empty [] e = refl
+    empty (x ∷ xs) e = absurd (omega (arith, e))
+
+    by : (b : Bool) → (k == seat) ≡ b → holds k ≡ []
+    by true e =
+        let same : k ≡ seat = grind (arith, nat_tests, e) in
+        subst (λ n. holds n ≡ []) (sym same) (empty (holds seat) nothing)
+    by false e =
+        let other : k ≢ seat = grind (arith, nat_tests, e) in
+        before k (omega (arith, low, other)) apart
+
+-- past the last seat no member is
+pub unheld_seats : (set : ℕ) (member : ℕ → Option ForkName) (holds : ℕ → List ℕ) → ((k : ℕ) (f : ForkName) → member k ≡ Some f → k < set)
+    → ((k : ℕ) → k ≢ CONSOLE_HOLDER → member k ≡ None → holds k ≡ []) → ((k : ℕ) → k < set → k ≢ CONSOLE_HOLDER → holds k ≡ []) → AreUnheld holds
+unheld_seats set member holds below owned before k apart = by (member k) refl
+  where
+    by : (o : Option ForkName) → member k ≡ o → holds k ≡ []
+    by None is = owned k apart is
+    by (Some f) is = before k (below k f is) apart

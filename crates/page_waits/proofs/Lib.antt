@@ -11,6 +11,7 @@ mod Held
 mod Lists
 mod Idle
 mod Moving
+mod Quanta
 mod Needing
 mod Holding
 pub mod Silence

@@ -3,14 +3,27 @@ use Rattle.std.specs.Prelude.{◌≡◌, ◌≢◌, ℕ, List, [], Option, None,
 use Rattle.machine_names.specs.declared.names.ForkName.{ForkName}
 use Rattle.page_contracts.specs.declared.store.TheConstants.{CONSOLE_HOLDER}
 use Rattle.page_waits.specs.declared.holders.Holders.{Holders}
+use Rattle.page_waits.specs.declared.holders.Holders.TheVariants as holders
+
+-- the fork of a seat, in a list by seat
+abbrev pub fork_at : List (Option ForkName) → ℕ → Option ForkName
+fork_at forks seat = slice_index_or forks seat None
 
 -- the fork in a seat, where pages are held for it
 abbrev pub holder_at : Holders → ℕ → Option ForkName
-holder_at h seat = slice_index_or h.forks seat None
+holder_at holders.Nobody seat = None
+holder_at (holders.Members forks) seat = fork_at forks seat
 
--- nothing is held for a seat but for these
+-- nothing is held for a seat but for these, by seat
+abbrev pub AreAllAt : (ℕ → Option ForkName) → (ℕ → List ℕ) → Type 0
+AreAllAt at holds = (seat : ℕ) → seat ≢ CONSOLE_HOLDER → at seat ≡ None → holds seat ≡ []
+
 abbrev pub AreAll : Holders → (ℕ → List ℕ) → Type 0
-AreAll h holds = (seat : ℕ) → seat ≢ CONSOLE_HOLDER → holder_at h seat ≡ None → holds seat ≡ []
+AreAll h = AreAllAt (holder_at h)
+
+-- nothing is held for any seat
+abbrev pub AreUnheld : (ℕ → List ℕ) → Type 0
+AreUnheld holds = (seat : ℕ) → seat ≢ CONSOLE_HOLDER → holds seat ≡ []
 
 -- they are members, each in its seat
 abbrev pub AreMembers : Holders → (ℕ → Option ForkName) → Type 0

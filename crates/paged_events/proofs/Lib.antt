@@ -8,6 +8,7 @@ mod TypeIn
 mod Acted
 mod RowsMore
 mod NoMoves
+mod Moving
 mod PassedOver
 mod RowPassed
 mod Idles

@@ -5,7 +5,7 @@ use Rattle.machine_names.specs.declared.names.ForkName.{ForkName}
 use Rattle.page_waits.specs.Idling.{IsIdle}
 use Rattle.page_waits.specs.Systems.{SystemMeaning}
 use Rattle.page_waits.specs.Told.{MovesSilently, TookRow}
-use Rattle.page_waits.specs.Transfers.{Counts, MovesAtMost, most_transfers}
+use Rattle.page_waits.specs.Transfers.{Counts, EndsWhole, MovesAtMost, most_transfers}
 use Rattle.page_waits.specs.Waits.{the_lists}
 
 -- units of a fork in a row, or idle entries
@@ -21,7 +21,8 @@ turns_in (idle n ∷ rows) = n + turns_in rows
 
 module _ {S D : Type 0} (means : SystemMeaning S) (counts : Counts D) (auto : Bool) where
   -- A row of units is of the head of the ready list, as it is behind what happened silently; what was queued then is queued behind them, but for what they took from
-  -- it; and under AUTO ON the oldest transfer ends with their quantum, and no other does. Before the first of them so many end at most.
+  -- it; and under AUTO ON the oldest transfer ends with their quantum, and no other does. Before the first of them so many end at most, and then a
+  -- quantum ends only with all its units.
   pub record TookUnits (f : ForkName) (n : ℕ) (s s' : S) (l l' : ForkLists) (drum drum' : D) : Type 0 where
     pub ended : Bool
     pub between : S
@@ -34,6 +35,7 @@ module _ {S D : Type 0} (means : SystemMeaning S) (counts : Counts D) (auto : Bo
     pub ends : (ended && auto) ≡ true → means.store.queue s' ≡ drop 1 (means.store.queue between)
     pub stays : (ended && auto) ≡ false → drum' ≡ at
     pub one : MovesAtMost counts 1 at drum'
+    pub whole : EndsWhole counts ended n drum at
     pub off : auto ≡ false → drum' ≡ drum
 
   -- Idle entries stand where nobody is ready and, under AUTO ON, nothing is queued, or as many transfers ended for them as may.

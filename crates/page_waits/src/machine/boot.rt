@@ -24,6 +24,7 @@ impl<S: System> Machine<S> {
             system,
             lists,
             auto: true,
+            holding: false,
         }
     }
 }

@@ -21,7 +21,7 @@ ghost use Rattle.event_deeds.specs.declared.answer.Answer.{Answer as AnAnswer};
 
 use crate::System;
 use crate::completing::complete;
-use crate::holders::{held_members, release_left};
+use crate::holders::{held_members, release_left, still_holding};
 use crate::machine::Machine;
 use crate::machine::looking::MOST_TRANSFERS;
 use crate::waking::tell;
@@ -62,12 +62,13 @@ impl<S: System> Machine<S> {
         ensures calm { (frames : ℕ) (d : DrumWords) → S.means.fits self.old.system d → IsInCore S.means frames self.old.system self.old.lists → IsNext deed.now ⊎ IsRoomy frames (S.means.plain self.old.system d) → IsOkAnd result (λ answer. IsInCore S.means frames self.new.system self.new.lists) }
     {
         self.lists.sound();
-        let holders = held_members(&self.system, &self.lists);
+        let holders = held_members(&self.system, &self.lists, self.holding);
         match self.system.deed(&mut self.lists, deed) {
             Ok(answer) => {
                 self.system.let_go(CONSOLE_HOLDER);
                 tell(&mut self.system, &mut self.lists);
                 release_left(&mut self.system, &self.lists, &holders);
+                self.holding = still_holding(&self.system, &self.lists, &holders);
                 Ok(answer)
             }
             Err(need) => Err(self.system.fetch(need)),
@@ -90,6 +91,7 @@ impl<S: System> Machine<S> {
         ensures awaited { (w : AnOption ANeed) → result ≡ Ok w → AreAwaited S.means (waits_with w (the_lists.waiting self.new.lists)) self.new.system }
         ensures marks { KeepsMarks self.old self.new }
     {
+        self.holding = true;
         match complete(&mut self.system, &mut self.lists, Some(need), drum) {
             Completed::Done(done) => Ok(after(done, need)),
             // Who waits is awaited.

@@ -22,14 +22,14 @@ ghost use Rattle.page_waits.specs.InCore.{IdledCalmly, IsInCore, RanCalmly, Took
 ghost use Rattle.page_waits.specs.Machines.{IsBare, KeepsMarks, auto, frames, limit};
 ghost use Rattle.page_waits.specs.Systems.{StaysState};
 ghost use Rattle.page_waits.specs.Told.{LastCounted, MovesSilently, TookRow, ends_quantum};
-ghost use Rattle.page_waits.specs.Transfers.{Moved, MovesAtMost, most_transfers};
+ghost use Rattle.page_waits.specs.Transfers.{EndsWhole, Moved, MovesAtMost, most_transfers};
 ghost use Rattle.page_waits.specs.Waits.{AreAwaited, AreStanding, IsHead, the_lists};
 ghost use Rattle.page_waits.specs.declared.turn.Done.{Done as ADone};
 
 use crate::System;
 use crate::completing::complete;
 use crate::head::{Head, next_head, wait};
-use crate::holders::{Holders, held_members, release_left};
+use crate::holders::{Holders, held_members, release_left, still_holding};
 use crate::machine::Machine;
 use crate::turn::{Done, Turn};
 use crate::waking::tell;
@@ -103,6 +103,16 @@ fn finish<S: System>(system: &mut S, lists: &mut ForkLists, head: Head, holders:
     ended
 }
 
+// Whether pages may be held for members, once a transfer was to end: it may be for one that a page came.
+fn holding_after(before: bool, ended: Completed) -> bool
+    ensures { result ≡ false → (before ≡ false) × (ended ≡ Completed.Nothing) }
+{
+    match ended {
+        Completed::Nothing => before,
+        Completed::Done(_) | Completed::DrumFault => true,
+    }
+}
+
 impl<S: System> Machine<S> {
     // Plans units of the fork whose turn is next, so many at most: they are done, and show this; or the fork waits.
     fn plan(&mut self, head: Head, left: u32) -> Option<Done>
@@ -128,11 +138,12 @@ impl<S: System> Machine<S> {
         ensures calm { (frames : ℕ) (d : DrumWords) → S.means.fits self.old.system d → IsInCore S.means frames self.old.system self.old.lists → IsRoomy frames (S.means.plain self.old.system d) → IsSomeAnd result (λ u. RanCalmly S.means frames u self.old.system self.new.system self.old.lists self.new.lists) }
     {
         self.lists.sound();
-        let holders = held_members(&self.system, &self.lists);
+        let holders = held_members(&self.system, &self.lists, self.holding);
         let most = most_units(&self.system, &self.lists, left);
         match self.system.units(&mut self.lists, head.fork, most) {
             Ok(progress) => {
                 let ended = finish(&mut self.system, &mut self.lists, head, &holders);
+                self.holding = still_holding(&self.system, &self.lists, &holders);
                 Some(Done {
                     fork: head.fork,
                     progress,
@@ -199,7 +210,9 @@ impl<S: System> Machine<S> {
         ensures marks { KeepsMarks self.old self.new }
         ensures tells { (n : ANeed) → result ≡ Completed.Done n → map need_of (S.means.store.queue self.old.system) ≡ n ∷ map need_of (S.means.store.queue self.new.system) }
     {
-        complete(&mut self.system, &mut self.lists, None, drum)
+        let ended = complete(&mut self.system, &mut self.lists, None, drum);
+        self.holding = holding_after(self.holding, ended);
+        ended
     }
 
     // Looks for units of a fork that is ready, so many at most; under AUTO ON transfers end until there is one, so many at most. None, where nobody is ready then.
@@ -222,6 +235,7 @@ impl<S: System> Machine<S> {
         ensures silent { result ≡ Ok None → MovesSilently self.old.lists.sched self.new.lists.sched }
         ensures some { IfOk result (λ came. IfSome came (λ u. 1 ≤ u.progress.count)) }
         ensures few { IfOk result (λ came. IfSome came (λ u. u.progress.count ≤ most)) }
+        ensures whole { IfOk result (λ came. IfSome came (λ u. EndsWhole (record { reads = D.read_count; writes = D.write_count }) u.ended u.progress.count drum.old drum.new)) }
         ensures off { auto self.old ≡ false → drum.new ≡ drum.old }
         ensures bare { IsBare self.new }
         ensures limit { limit self.new ≡ limit self.old }
@@ -283,6 +297,7 @@ impl<S: System> Machine<S> {
         ensures silent { (n : ℕ) → result ≡ Ok (Turn.Idle n) → MovesSilently self.old.lists.sched self.new.lists.sched }
         ensures some { IfOk result (λ turn. 1 ≤ turns_of turn) }
         ensures most { IfOk result (λ turn. turns_of turn ≤ most) }
+        ensures whole { (u : ADone) → result ≡ Ok (Turn.Ran u) → EndsWhole (record { reads = D.read_count; writes = D.write_count }) u.ended u.progress.count drum.old drum.new }
         ensures off { auto self.old ≡ false → drum.new ≡ drum.old }
         ensures bare { IsBare self.new }
         ensures limit { limit self.new ≡ limit self.old }

@@ -8,11 +8,13 @@ use Rattle.page_waits.specs.Acts.{Turned, turns_of}
 use Rattle.page_waits.specs.InCore.{TookCalmly}
 use Rattle.page_waits.specs.Systems.{row_of}
 use Rattle.page_waits.specs.declared.turn.Turn.{Turn}
+use Rattle.page_waits.specs.Transfers.{Counts}
 use Rattle.page_waits.specs.Waits.{the_lists}
 use Rattle.paged_events.specs.Rows.{idle, units}
 use Rattle.paged_events.proofs.Acted.{adds_counted, adds_some, took_cut, took_given, took_stopped}
 use Rattle.paged_events.proofs.Coming.{idle_calm, units_calm}
 use Rattle.paged_events.proofs.Entries.{idle_told, units_told}
+use Rattle.paged_events.proofs.Moving.{row_moves}
 use Rattle.paged_events.proofs.Outside.{outside_drum, outside_taker, outside_then, uses_drum, uses_taker, uses_well}
 use Rattle.paged_events.proofs.Over.{over_none, over_quiet, so_far}
 use Rattle.paged_events.proofs.Turning.{are_turns, idle_cut, idle_gave, units_cut, units_gave}
@@ -59,11 +61,35 @@ returns-in-Ok-end_quantum-clause-rows g c =
           ends = λ is. c.in-Ok-end_quantum.ensures.ended (ap (λ b. c.in-Ran.row.ended && b) auto ∙ is);
           stays = λ is. c.end_quantum.ensures.still (ap (λ b. c.in-Ran.row.ended && b) auto ∙ is);
           one = c.end_quantum.ensures.bounded;
+          whole = c.in-Ok.ensures.whole c.in-Ran.row (ap Ok c.in-Ran.is);
           off = λ is. c.end_quantum.ensures.still (and_off c.in-Ran.row.ended c.turns.new.self.auto (auto ∙ is)) ∙ c.turns.ensures.off is;
         },
         (refl, refl, refl),
       );
     }
+
+pub returns-in-Ok-end_quantum-clause-some : goal.returns-in-Ok-end_quantum-clause-some
+returns-in-Ok-end_quantum-clause-some g c =
+    let counts : Counts g.row.D.Denot = record { reads = g.D.Drum.read_count; writes = g.D.Drum.write_count } in
+    let row = c.in-Ran.row in
+    row_moves counts row.ended row.progress.count c.args.drum.now c.turns.new.drum c.end_quantum.new.drum (subst (λ (w : Turn). 1 ≤ turns_of w) c.in-Ran.is c.in-Ok.ensures.some) c.turns.ensures.bounded c.end_quantum.ensures.bounded
+    (c.in-Ok.ensures.whole row (ap Ok c.in-Ran.is)) (λ is. c.end_quantum.ensures.still (ap (λ b. b && c.turns.new.self.auto) is))
+
+pub returns-in-Ok-end_quantum-clause-bounded : goal.returns-in-Ok-end_quantum-clause-bounded
+returns-in-Ok-end_quantum-clause-bounded g c =
+    let some = returns-in-Ok-end_quantum-clause-some g c in
+    let most = subst (λ (w : Turn). turns_of w ≤ c.args.left) c.in-Ran.is c.in-Ok.ensures.most in
+    omega (arith, some, most)
+
+pub returns-in-Err-end_quantum-clause-bounded : goal.returns-in-Err-end_quantum-clause-bounded
+returns-in-Err-end_quantum-clause-bounded g c =
+    let counts : Counts g.row.D.Denot = record { reads = g.D.Drum.read_count; writes = g.D.Drum.write_count } in
+    let row = c.in-Ran.row in
+    let some = subst (λ (w : Turn). 1 ≤ turns_of w) c.in-Ran.is c.in-Ok.ensures.some in
+    let most = subst (λ (w : Turn). turns_of w ≤ c.args.left) c.in-Ran.is c.in-Ok.ensures.most in
+    let moves = row_moves counts row.ended row.progress.count c.args.drum.now c.turns.new.drum c.end_quantum.new.drum some c.turns.ensures.bounded c.end_quantum.ensures.bounded
+    (c.in-Ok.ensures.whole row (ap Ok c.in-Ran.is)) (λ is. c.end_quantum.ensures.still (ap (λ b. b && c.turns.new.self.auto) is)) in
+    omega (arith, moves, most)
 
 pub returns-in-Ok-end_quantum-clause-off : goal.returns-in-Ok-end_quantum-clause-off
 returns-in-Ok-end_quantum-clause-off g c =

@@ -1,6 +1,9 @@
-use Rattle.std.proofs.Common.{◌≡◌, true, ap, sym, subst, arith}
+use Rattle.std.proofs.Common.{◌≡◌, ◌∙◌, ℕ, length, true, ap, sym, subst, arith}
+use Rattle.std.proofs.lemmas.List.{length-map}
 use Rattle.frame_order.specs.FrameOrder.{IsOnce, stands_in}
-use Rattle.job_sched.specs.Schedules.{Schedule, seats_of}
+use Rattle.job_sched.specs.Places.{spot}
+use Rattle.job_sched.specs.Rows.{row}
+use Rattle.job_sched.specs.Schedules.{Schedule, member_of, seats_of}
 use Rattle.job_sched.specs.Ties.{AreApart}
 use Rattle.job_sched.proofs.Apart.{apart_kept}
 use Rattle.job_sched.proofs.Leaving.{few_stand}
@@ -27,4 +30,9 @@ returns c =
           let below = seats_below i.rows i.spare i.spots.items i.places.items i.seated.items i.used kept k (subst (λ (s : Schedule). stands_in k (seats_of s) ≡ true) (sym c.self.view_is) here) in
           omega arith;
       timed = omega arith;
+      idle = λ none.
+          let ready = ap (λ (s : Schedule). length s.ready) c.self.view_is ∙ ap length none in
+          let long = length-map (row i.rows 2) (λ (p : ℕ). member_of (spot i.spots.items p)) in
+          let idle = kept.idle in
+          omega arith;
     }

@@ -13,7 +13,7 @@ use Rattle.page_waits.specs.Acts.{Still, told_work}
 use Rattle.page_waits.specs.Waits.{AreAwaited, AreStanding, waits_with, the_lists}
 use Rattle.page_waits.proofs.Awaiting.{awaited_fewer, awaited_lost, awaited_same, standing_asked, awaited_asked}
 use Rattle.page_waits.proofs.Lists.{fewer_wait, member_below}
-use Rattle.page_waits.proofs.Holding.{all_let_go, all_lost, all_same, owned_of, released_of}
+use Rattle.page_waits.proofs.Holding.{all_let_go, all_lost, all_same, owned_of, released_of, unheld_same}
 use Rattle.page_waits.proofs.InCore.{core_kept, core_there, no_frame, none_needed}
 use Rattle.page_waits.proofs.Needing.{few_asked}
 use Rattle.page_waits.proofs.Quieting.{still_asked, told_asked}
@@ -66,6 +66,7 @@ invariant_of-self g c =
         owned = owned_of c.held_members-holders.result (the_lists.member c.tell.new.lists) (g.S.System.means.store.holds c.release_left.new.system) left.all left.released;
       };
       tied = c.tell.ensures.tied (g.S.System.means.tree c.release_left.new.system).forks (subst (λ (t : PlainTree). AreTied t.forks c.deed.new.lists) (sym tree) c.in-Ok.ensures.tied);
+      unheld = c.still_holding-self.ensures;
     }
 
 pub returns-in-Ok-clause-did : goal.returns-in-Ok-clause-did
@@ -116,6 +117,7 @@ invariant_of-self-in-Err g c =
       tied =
           subst (λ (l : ForkLists). AreTied (g.S.System.means.tree c.fetch.new.self).forks l) (sym same)
           (subst (λ (t : PlainTree). AreTied t.forks c.args.self.now.lists) (sym tree) c.args.self.now.tied);
+      unheld = λ none. unheld_same _ _ (c.fetch.ensures.fetched.holds ∙ needs.stored.holds) (c.args.self.now.unheld none);
     }
 
 pub returns-in-Err-clause-still : goal.returns-in-Err-clause-still

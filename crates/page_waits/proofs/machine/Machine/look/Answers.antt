@@ -1,7 +1,8 @@
-use Rattle.std.proofs.Common.{◌≡◌, ℕ, ◌+◌, ◌-◌, ◌||◌, None, Option, Bool, true, false, not, refl, sym, ◌∙◌, ap, subst, arith}
+use Rattle.std.proofs.Common.{◌≡◌, ◌⊎◌, inl, inr, ℕ, ◌+◌, ◌-◌, ◌<◌, ◌≤◌, ◌||◌, None, Option, Bool, true, false, nat_le, not, refl, sym, ◌∙◌, ap, subst, arith}
 use Rattle.std.specs.Prelude.{◌==◌}
 use Rattle.std.proofs.lemmas.Bool.Decides.{nat_tests}
 use Rattle.machine_names.specs.declared.names.ForkName.{ForkName}
+use Rattle.job_sched.specs.Schedules.{Schedule}
 use Rattle.plain_model.specs.Trees.{PlainTree}
 use Rattle.page_waits.specs.Acts.{IdledOver, Quiet}
 use Rattle.page_waits.specs.Calm.{IsRoomy}
@@ -15,6 +16,7 @@ use Rattle.page_waits.proofs.Idle.{nobody_runs}
 use Rattle.page_waits.proofs.InCore.{from_calm, from_idle, still_idle}
 use Rattle.page_waits.proofs.Marks.{marks_then}
 use Rattle.page_waits.proofs.Moving.{few_then, fewer, moved_then}
+use Rattle.page_waits.proofs.Quanta.{ends_whole}
 use Rattle.page_waits.proofs.Quieting.{ran_quiet, quiet_still, quiet_then, idle_spent, idle_quiet}
 use Rattle.page_waits.proofs.Silence.{row_behind, silent_arrival, silent_then}
 use Rattle.page_waits.proofs.machine.Machine.look.Goals as goal
@@ -107,6 +109,7 @@ loop-u-preserved g c =
       reads = omega (arith, i.reads, c.complete.ensures.reads);
       writes = omega (arith, i.writes, c.complete.ensures.writes);
       off = λ off. let mark : planned.auto ≡ old.auto = c.first_units.ensures.mark ∙ i.marks.auto in absurd (on (sym c.if-not-self.false) (mark ∙ off));
+      fresh = λ _. ap (λ (s : Schedule). s.used) (c.in-Done.ensures.told need refl) ∙ c.sound.ensures.idle (c.first_units.ensures.none none);
       silent =
           silent_then old.lists.sched planned.lists.sched new.lists.sched (silent_then old.lists.sched mid.lists.sched planned.lists.sched i.silent (c.first_units.ensures.silent none))
           (silent_arrival planned.lists.sched new.lists.sched need (c.in-Done.ensures.told need refl));
@@ -177,3 +180,21 @@ returns-in-DrumFault-clause-bounded g c =
     let some = c.if-left-eq0.false in
     let few = c.loop-u.invariant.few in
     few_then counts (4294967296 - c.loop-u.left) 1 4294967296 c.args.drum.now c.loop-u.drum c.complete.new.drum (omega (arith, some, few)) c.loop-u.invariant.bounded c.complete.ensures.bounded
+
+pub returns-in-Some-clause-whole : goal.returns-in-Some-clause-whole
+returns-in-Some-clause-whole g c =
+    let u = c.in-Some.u in
+    let i = c.loop-u.invariant in
+    elim (searched c.loop-u.left i.few) [
+      | inl none ↦ inl (omega (arith, none, i.bounded))
+      | inr some ↦
+          inr (λ is. ends_whole u.fork u.progress.count u.ended (g.S.System.means.tree c.loop-u.self.system).forks (g.S.System.means.tree c.first_units.new.self.system).forks
+          c.loop-u.self.lists.sched c.first_units.new.self.lists.sched c.in-Some.ensures.row (i.fresh some) is)
+    ]
+  where
+    searched : (left : ℕ) → left ≤ 4294967296 → (left ≡ 4294967296) ⊎ (left < 4294967296)
+    searched left few = by (nat_le 4294967296 left) refl
+      where
+        by : (t : Bool) → nat_le 4294967296 left ≡ t → (left ≡ 4294967296) ⊎ (left < 4294967296)
+        by true e = inl (grind (arith, nat_tests, e, few))
+        by false e = inr (grind (arith, nat_tests, e))

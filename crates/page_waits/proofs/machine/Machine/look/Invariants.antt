@@ -1,4 +1,4 @@
-use Rattle.std.proofs.Common.{◌≡◌, ℕ, ◌-◌, ◌≤◌}
+use Rattle.std.proofs.Common.{◌≡◌, ℕ, ◌-◌, ◌<◌, ◌≤◌}
 use Rattle.std.specs.Prelude.{None, false}
 use Rattle.page_waits.specs.Acts.{Quiet}
 use Rattle.page_waits.specs.Calm.{IsRoomy}
@@ -20,6 +20,7 @@ invariant-loop-u g l = record {
   reads : g.D.Drum.read_count l.fn.drum ≤ g.D.Drum.read_count l.drum;
   writes : g.D.Drum.write_count l.fn.drum ≤ g.D.Drum.write_count l.drum;
   off : auto l.fn.self ≡ false → l.drum ≡ l.fn.drum;
+  fresh : l.left < 4294967296 → l.self.lists.sched.used ≡ 0;
   silent : MovesSilently l.fn.self.lists.sched l.self.lists.sched;
   seated : the_lists.member l.self.lists ≡ the_lists.member l.fn.self.lists;
   within : (n : ℕ) → g.S.System.means.within l.fn.self.system n → g.S.System.means.within l.self.system n;

@@ -15,7 +15,7 @@ use Rattle.page_waits.proofs.Awaiting.{awaited_fewer, awaited_lost, standing_beg
 use Rattle.page_waits.proofs.Lists.{are_lists, fewer_wait, member_below}
 use Rattle.page_contracts.proofs.Losing.{can_fetch}
 use Rattle.page_contracts.specs.Stores.{traffic}
-use Rattle.page_waits.proofs.Holding.{all_lost, released_of}
+use Rattle.page_waits.proofs.Holding.{all_lost, released_of, unheld_same}
 use Rattle.page_waits.proofs.InCore.{core_kept, no_frame, none_needed}
 use Rattle.page_waits.proofs.Silence.{silent_nil, silent_wait}
 use Rattle.page_waits.proofs.Needing.{few_free}
@@ -40,6 +40,7 @@ pub invariant_of-self : goal.invariant_of-self
 invariant_of-self g c = record {
   standing = c.finish-ended.ensures.standing;
   tied = c.finish-ended.ensures.tied;
+  unheld = c.still_holding-self.ensures;
 }
 
 pub returns-in-Ok-clause-did : goal.returns-in-Ok-clause-did
@@ -84,6 +85,7 @@ invariant_of-self-in-Err g c =
           c.wait.ensures.tied (g.S.System.means.tree c.fetch-awaited.new.self).forks
           (subst (λ (l : ForkLists). AreTied (g.S.System.means.tree c.fetch-awaited.new.self).forks l) (sym same)
           (subst (λ (t : PlainTree). AreTied t.forks c.args.self.now.lists) (sym tree) c.args.self.now.tied));
+      unheld = λ none. unheld_same _ _ (fetched.fetched.holds ∙ needs.stored.holds) (c.args.self.now.unheld none);
     }
 
 pub returns-in-Err-clause-still : goal.returns-in-Err-clause-still
