@@ -10,10 +10,10 @@ import re
 import sys
 
 # What the clause `headline` names.
-HEADLINE = (("tenex_console", "Headline"), "HasHeadline")
+HEADLINE = (("run_console", "Headline"), "HasHeadline")
 SEEN = (("script_driver", "Observed"), "seen")
 OF_BIG = (("script_driver", "RunTexts"), "RunsGenerated")
-BESIDE_OTHERS = (("tenex_console", "Isolation"), "HasIsolation")
+BESIDE_OTHERS = (("run_console", "Isolation"), "HasIsolation")
 WORD = re.compile(r"[A-Za-z_◌][A-Za-z0-9_'◌]*|[^\sA-Za-z0-9_(){}\[\],.;:\"']+")
 TAKES = re.compile(r"use Rattle\.([a-z0-9_]+)\.specs\.([A-Za-z0-9_.]+?)(?:\.\{(.*)\}| as (\S+))?\s*$")
 MARKS = r"(?:abbrev |unfoldable |pub |record |data )"

@@ -6,8 +6,8 @@ ghost use Rattle.script_texts.specs.Texts.{ended};
 ghost use Rattle.texts.specs.Wrote.{GrowsPartly};
 ghost use Rattle.asm_console.specs.Endings.{fault_line, stopped_line};
 
+use crate::asm_end::Stopped;
 use crate::put::{put, put_line};
-use crate::status::Stopped;
 use asm_core::AsmFault;
 use outside::{Failed, Sink};
 use script_lang::digits::decimal;
@@ -20,7 +20,6 @@ pub fn write_why<T: Sink>(why: &Stopped, out: &mut T) -> Result<(), Failed>
     ensures err { OnErr result (GrowsPartly (T.taken out.old) (T.taken out.new) (stopped_line why.now)) }
 {
     match why {
-        Stopped::Usage => put_line(out, b"?USAGE"),
         Stopped::ReadFault => put_line(out, b"?READ"),
         Stopped::LongText => put_line(out, b"?LONG SCRIPT"),
         Stopped::Fault(fault) => write_fault(fault, out),

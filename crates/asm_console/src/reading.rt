@@ -4,7 +4,7 @@ ghost use Rattle.outside.specs.Faults.{Rose};
 ghost use Rattle.asm_core.specs.declared.survey.TheConstants.{PROGRAM_BYTES as MOST};
 ghost use Rattle.asm_console.specs.Endings.{IsRead, IsUnread};
 
-use crate::status::Stopped;
+use crate::asm_end::Stopped;
 use asm_core::PROGRAM_BYTES;
 use outside::Source;
 use std::alloc::Global;

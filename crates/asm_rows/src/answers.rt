@@ -2,11 +2,11 @@
 ghost use Rattle.std.specs.Prelude.{◌<◌};
 
 use crate::asked::Row;
-use asm_console::asm;
 use ka10_table::{Family, row};
 use outside::{MemSink, MemSource};
 use std::alloc::{AllocError, Global};
 use std::io::{self, Write};
+use text_console::text_command;
 use word36::fill_octal;
 
 /// How many bytes a command may write where nothing fails.
@@ -76,7 +76,7 @@ fn print_run<W: Write>(
     let Ok(mut written) = MemSink::new(alloc, room, Vec::new(alloc)) else {
         return out.write_all(b" no memory");
     };
-    let status = asm(alloc, &words, &mut source, &mut written);
+    let status = text_command(alloc, &words, &mut source, &mut written);
     write!(out, " {}", status.number())?;
     print_lines(written.bytes(), out)
 }

@@ -1,6 +1,6 @@
 //! Rows of the assembler: reads commands with their texts, one a line, and prints beside each how it ends and what it writes.
 //! No layer stands above; to a reader a row is a text, with `/` for each line feed, and the words that it becomes or its fault.
-//! Stands on asm_console and ka10_table.
+//! Stands on text_console and ka10_table.
 #![tactic(auto)]
 
 mod answers;

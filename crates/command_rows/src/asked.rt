@@ -1,5 +1,7 @@
 // What the words of a command ask for.
-use command_words::{EventSource, RecordCommand, RecordRequest, Request, asked_record, asked_run};
+use command_words::{
+    EventSource, RecordCommand, RecordRequest, Request, TextRequest, asked_run, asked_text,
+};
 use std::alloc::{AllocError, Global};
 use std::io::{self, Write};
 
@@ -25,10 +27,7 @@ fn show_run<W: Write>(asked: Option<Request>, out: &mut W) -> io::Result<()> {
 }
 
 /// Prints what is asked of a record.
-fn show_record<W: Write>(asked: Option<RecordRequest>, out: &mut W) -> io::Result<()> {
-    let Some(request) = asked else {
-        return out.write_all(b"nothing");
-    };
+fn show_record<W: Write>(request: RecordRequest, out: &mut W) -> io::Result<()> {
     match request.command {
         RecordCommand::Replay => out.write_all(b"replay")?,
         RecordCommand::Image => out.write_all(b"image")?,
@@ -36,17 +35,26 @@ fn show_record<W: Write>(asked: Option<RecordRequest>, out: &mut W) -> io::Resul
     write!(out, ", drum {}", request.drum)
 }
 
-/// Prints what words, each behind a space, ask of a run and of a record. False where they are no text, or there is no memory.
+/// Prints what is asked of a text.
+fn show_text<W: Write>(asked: Option<TextRequest>, out: &mut W) -> io::Result<()> {
+    match asked {
+        None => out.write_all(b"nothing"),
+        Some(TextRequest::Record(request)) => show_record(request, out),
+        Some(TextRequest::Assemble(terminal)) => write!(out, "asm {}", terminal.0),
+    }
+}
+
+/// Prints what words, each behind a space, ask of a run and of a text. False where they are no text, or there is no memory.
 pub(crate) fn show_asked<W: Write>(text: &[u8], out: &mut W, alloc: Global) -> io::Result<bool> {
     let Ok(text) = str::from_utf8(text) else {
         return Ok(false);
     };
     let words = words_of(text, alloc)?;
-    let (Ok(run), Ok(record)) = (asked_run(alloc, &words), asked_record(alloc, &words)) else {
+    let (Ok(run), Ok(text)) = (asked_run(alloc, &words), asked_text(alloc, &words)) else {
         return Ok(false);
     };
     show_run(run, out)?;
     out.write_all(b" | ")?;
-    show_record(record, out)?;
+    show_text(text, out)?;
     Ok(true)
 }

@@ -4,3 +4,4 @@ pub mod Found
 pub mod Whole
 pub mod Reading
 pub mod Records
+pub mod Texts

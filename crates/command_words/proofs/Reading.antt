@@ -105,7 +105,7 @@ fine name settings words r are (a_size drum_size) = single LEAST_DRUM_PAGES MOST
 fine name settings words r are a_seed = single_seed name (given a_seed settings) r.events are.events
 
 -- the first word is that of a verb, which takes no seed, or one
-verb_of : (name : Text) (values : List Text) (source : EventSource) → AsksForEvents name values source → (verb : Verb) × (name ≡ name_of verb)
+pub verb_of : (name : Text) (values : List Text) (source : EventSource) → AsksForEvents name values source → (verb : Verb) × (name ≡ name_of verb)
 verb_of name [] Script h = (Run, h)
 verb_of name (v ∷ []) (Generated seed) h = (Big, h.0)
 verb_of name [] (Generated seed) h = absurd h

@@ -1,3 +1,4 @@
 pub mod Words
 pub mod RecordWords
 pub mod Parser
+pub mod TextWords

@@ -3,8 +3,8 @@ use crate::changing::Changing;
 use crate::fault::{Call, Fault};
 use crate::line_source::LineSource;
 use outside::{Drum, MemDrum, MemSink, Memory, Sink, Source};
+use run_console::{Status, run_command};
 use std::alloc::{AllocError, Global};
-use tenex_console::{Status, tenex};
 
 /// How many bytes a text has at most.
 const MOST_WRITTEN: usize = 65_536;
@@ -102,7 +102,7 @@ fn status_of<S: Source, T: Sink, R: Sink, D: Drum>(
     drum: &mut D,
     alloc: Global,
 ) -> Status {
-    tenex(alloc, words, script, out, rec, drum)
+    run_command(alloc, words, script, out, rec, drum)
 }
 
 /// Runs a case with a fault over a drum.

@@ -1,6 +1,6 @@
 //! Rows of runs that fail: runs scripts in memory over objects of which one call fails, and prints how each run ended.
 //! No layer stands above; to a reader a row is a call that fails, the status, and how far both texts came.
-//! Stands on tenex_console.
+//! Stands on run_console.
 #![tactic(auto)]
 
 mod asked;

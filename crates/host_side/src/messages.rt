@@ -1,7 +1,6 @@
 // What standard error says to a person. No text of a run goes there, and where it can't be written nothing
 // is lost.
 use crate::watch::{BadLine, TextKind, Wrong};
-use asm_console::Stopped;
 use asm_core::AsmFault;
 use std::io::Error;
 use texts::Status;
@@ -43,9 +42,10 @@ fn help(status: Status, of: TextKind) -> Option<&'static str> {
         Status::Usage => Some(USAGE),
         Status::Script => Some(lines_of(of)),
         Status::DrumFault => Some("tenex: the drum failed"),
-        Status::Memory => Some("tenex: there is no memory for a machine of this size"),
+        Status::Memory => Some(lack_of(of)),
         Status::LongScript => Some(limit_of(of)),
         Status::Illegal => Some(NO_TURN),
+        Status::Assembly => Some(lines_of(of)),
         Status::Image => Some("tenex: docs/MACHINE.md has the parts of an image"),
     }
 }
@@ -56,6 +56,14 @@ fn lines_of(kind: TextKind) -> &'static str {
         TextKind::Script => "tenex: docs/MACHINE.md has the lines of a script",
         TextKind::Program => "tenex: docs/MACHINE.md has the lines of a program",
         TextKind::Record => "tenex: docs/MACHINE.md has the lines of a record",
+    }
+}
+
+/// What there is no memory for, where this kind of text was read.
+fn lack_of(kind: TextKind) -> &'static str {
+    match kind {
+        TextKind::Program => "tenex: there is no memory for the program",
+        _ => "tenex: there is no memory for a machine of this size",
     }
 }
 
@@ -134,26 +142,13 @@ fn is_printed(c: u8) -> bool {
     (b' '..=b'~').contains(&c)
 }
 
-/// Says why a program has no words, with the line that is bad, where there is one: nothing, where the error of a
-/// file says it.
-pub fn explain_stopped<R: Eprint>(rt: &R, why: &Stopped, bad: Option<&BadLine<'_>>) {
+/// Says what is wrong with the text of a program, by its fault, with the line that is bad, where there is one.
+pub fn explain_fault<R: Eprint>(rt: &R, fault: &AsmFault, bad: Option<&BadLine<'_>>) {
     if let Some(bad) = bad {
         return explain_line(rt, bad);
     }
-    match why {
-        Stopped::Usage => usage(rt),
-        Stopped::ReadFault => {}
-        Stopped::LongText => {
-            let _ = rt.eprintln(limit_of(TextKind::Program));
-        }
-        Stopped::Fault(fault) => explain_fault(rt, fault),
-    }
-}
-
-/// Says what is wrong with the text of a program.
-fn explain_fault<R: Eprint>(rt: &R, fault: &AsmFault) {
     let _ = match fault {
-        AsmFault::Memory => rt.eprintln("tenex: there is no memory for the program"),
+        AsmFault::Memory => rt.eprintln(lack_of(TextKind::Program)),
         AsmFault::Line(n) => eprintln!(rt;
             "tenex: line {n} is no line of a program, or does not end with a line feed"
         ),

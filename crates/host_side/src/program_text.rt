@@ -1,7 +1,9 @@
 // The text of a program as it was read, kept so that a bad line of it can be shown.
-ghost use Rattle.std.specs.Prelude.{◌≡◌, IfSome};
+ghost use Rattle.std.specs.Prelude.{◌≡◌, Err, IfSome, List, ℕ};
+ghost use Rattle.asm_core.specs.Places.{outcome};
 
 use crate::watch::{BadLine, TextKind, Wrong, unended};
+use asm_core::{AsmFault, PROGRAM_BYTES, assemble};
 use line_buffer::MOST_LINE;
 use outside::{Failed, Source};
 use std::alloc::Global;
@@ -37,6 +39,22 @@ impl Pieces {
             }
         }
         None
+    }
+}
+
+// The fault of a whole text. None where it is a program, or too long for one, or there is no memory to look.
+fn fault_of(alloc: Global, text: &[u8]) -> Option<AsmFault>
+    ensures { IfSome result (λ fault. outcome text.now ≡ Err fault) }
+{
+    if text.len() > PROGRAM_BYTES {
+        return None;
+    }
+    let Err(fault) = assemble(alloc, text) else {
+        return None;
+    };
+    match fault {
+        AsmFault::Memory => None,
+        fault => Some(fault),
     }
 }
 
@@ -82,6 +100,15 @@ impl<S: Source> Kept<S> {
         ensures { result.now ≡ self.now.source }
     {
         &self.source
+    }
+
+    /// The fault for which the text that was read is no program. None where it is one, or too long, or there is no memory to
+    /// look.
+    pub fn fault(&self, alloc: Global) -> Option<AsmFault>
+        ensures { IfSome result (λ fault. (text : List ℕ) × (outcome text ≡ Err fault)) }
+    {
+        let text = self.pieces.text.as_ref()?;
+        fault_of(alloc, text)
     }
 
     /// The line of this number, counted from 1, and what is wrong with it where it is bad.

@@ -6,7 +6,7 @@ use Rattle.command_words.specs.declared.request.EventSource.{EventSource}
 use Rattle.command_words.specs.declared.request.Request.{Request}
 use Rattle.command_words.specs.declared.sizes.Sizes.{Sizes}
 use Rattle.texts.specs.declared.last.Status.{Status}
-use Rattle.texts.specs.declared.last.Status.TheVariants.{Done, Usage, Script, DrumFault, Memory, ReadFault, WriteFault, LongScript, Illegal, Image}
+use Rattle.texts.specs.declared.last.Status.TheVariants.{Done, Usage, Script, DrumFault, Memory, ReadFault, WriteFault, LongScript, Illegal, Assembly, Image}
 use Rattle.texts.specs.Ends.{closing_line}
 use Rattle.script_driver.specs.declared.driver.Driven.{Driven}
 use Rattle.script_driver.specs.declared.driver.Driven.TheVariants.{Done as WholeScript, Bad, Long, ReadFault as Unread, DrumFault as Unpaged, TakerFault}
@@ -25,6 +25,7 @@ Ran request told ReadFault = Part Unread (closing_line ReadFault 0) request told
 Ran request told WriteFault = Fronts request told
 Ran request told LongScript = Part Long (closing_line LongScript 0) request told
 Ran request told Illegal = ⊥
+Ran request told Assembly = ⊥
 Ran request told Image = ⊥
 
 -- what was told of a run of these events with this status, of so many frames and pages of the drum, where the drum told its pages
@@ -37,6 +38,7 @@ abbrev pub IsOfRun : Status → Type 0
 IsOfRun Usage = ⊥
 IsOfRun Memory = ⊥
 IsOfRun Illegal = ⊥
+IsOfRun Assembly = ⊥
 IsOfRun Image = ⊥
 IsOfRun status = Unit {0}
 
@@ -46,6 +48,7 @@ Judges Done script = (events : List Event) × IsScript script events
 Judges Script script = (n : ℕ) × (events : List Event) × StopsAt n script events
 Judges LongScript script = (events : List Event) × IsTooLong script events
 Judges Illegal script = ⊥
+Judges Assembly script = ⊥
 Judges Image script = ⊥
 Judges status script = Unit {0}
 

@@ -1,18 +1,16 @@
-//! The program: it hands its words, standard input, standard output and the files `tenex.record` and `tenex.drum`
-//! to the console, or the first three to the assembler, or to what reads a record. To its user the exit status is how that
-//! ended, and standard error says what helps. Stands on tenex_console, asm_console and record_console, and on host_side for the
-//! files and what helps.
+//! The program: it hands its words, standard input, standard output and the files `tenex.record` and `tenex.drum` to the one
+//! call `tenex`; where the words are those of a command that reads a text, no file, and what takes their place. To its user the
+//! exit status is how that ended, and standard error says what helps. Stands on tenex_console, and on host_side for the files and
+//! what helps.
 #![tactic(auto)]
 
-use asm_console::{AsmStatus, Stopped, asm};
 use asm_core::AsmFault;
-use command_words::{RecordCommand, asked_run};
+use command_words::{TextCommand, asked_run};
 use host_side::{
-    BadLine, DRUM, Kept, RECORD, TextKind, Watched, explain, explain_error, explain_line,
-    explain_stopped, make_drum, make_record, usage,
+    BadLine, DRUM, Kept, RECORD, TextKind, Watched, explain, explain_error, explain_fault,
+    explain_line, make_drum, make_record, usage,
 };
-use outside::{FileDrum, Source, StdSink, StdSource};
-use record_console::record_command;
+use outside::{FileDrum, Source, StdSink, StdSource, SureDrum, SureSink};
 use std::fs::File;
 use std::io::{self, BufWriter, ErrorKind};
 use std::process::ExitCode;
@@ -23,6 +21,9 @@ use texts::Status;
 
 /// What stands in for a standard stream that is closed: a folder, of which nothing is read and to which nothing is written.
 const NO_STREAM: &str = "/";
+
+/// The pages of the drum that stands in for one where a command uses none.
+const NO_PAGES: u32 = 0;
 
 /// The exit status where the file of the record or of the drum can't be made.
 const CANNOT_OPEN: u8 = 9;
@@ -96,59 +97,61 @@ fn explain_bad<S: Source>(rt: &HostRuntime, script: &Watched<S>) {
     }
 }
 
-/// Assembles the program on standard input with these words. No file is made.
+/// Makes of the text of this kind on standard input what these words ask for. No file is made.
+fn read_text(rt: &HostRuntime, words: &[String], of: TextKind) -> u8 {
+    let alloc = rt.alloc();
+    let Ok(printer) = BufWriter::new(alloc, rt.stdout()) else {
+        return no_memory(rt);
+    };
+    let Ok(mut drum) = SureDrum::new(alloc, NO_PAGES) else {
+        return no_memory(rt);
+    };
+    let mut text = StdSource::new(rt.stdin());
+    let mut out = StdSink::new(printer);
+    let mut rec = SureSink::new();
+    let status = tenex(alloc, words, &mut text, &mut out, &mut rec, &mut drum);
+    explain(rt, status, of);
+    explain_error(rt, "standard input", text.error());
+    explain_error(rt, "standard output", out.error());
+    status.number()
+}
+
+/// Assembles the program on standard input with these words. No file is made; its text is kept, to show what is wrong with it.
 fn assemble(rt: &HostRuntime, words: &[String]) -> u8 {
     let alloc = rt.alloc();
     let Ok(printer) = BufWriter::new(alloc, rt.stdout()) else {
         return no_memory(rt);
     };
+    let Ok(mut drum) = SureDrum::new(alloc, NO_PAGES) else {
+        return no_memory(rt);
+    };
     let mut text = Kept::new(alloc, StdSource::new(rt.stdin()));
     let mut out = StdSink::new(printer);
-    let status = asm(alloc, words, &mut text, &mut out);
-    if let AsmStatus::Stopped(why) = &status {
-        explain_stopped(rt, why, bad_line(why, &text).as_ref());
-    }
+    let mut rec = SureSink::new();
+    let status = tenex(alloc, words, &mut text, &mut out, &mut rec, &mut drum);
+    explain_program(rt, status, &text);
     explain_error(rt, "standard input", text.source().error());
     explain_error(rt, "standard output", out.error());
     status.number()
 }
 
+/// Says why the text of a program was not assembled. The status doesn't tell for which fault, so the text is looked through
+/// once more.
+fn explain_program<S: Source>(rt: &HostRuntime, status: Status, text: &Kept<S>) {
+    if status != Status::Assembly {
+        return explain(rt, status, TextKind::Program);
+    }
+    match text.fault(rt.alloc()) {
+        Some(fault) => explain_fault(rt, &fault, bad_line(&fault, text).as_ref()),
+        None => explain(rt, status, TextKind::Program),
+    }
+}
+
 /// The line for which a text is no program, where it is for one that is no line.
-fn bad_line<'a, S: Source>(why: &Stopped, text: &'a Kept<S>) -> Option<BadLine<'a>> {
-    match why {
-        Stopped::Fault(AsmFault::Line(number)) => text.bad(*number),
+fn bad_line<'a, S: Source>(fault: &AsmFault, text: &'a Kept<S>) -> Option<BadLine<'a>> {
+    match fault {
+        AsmFault::Line(number) => text.bad(*number),
         _ => None,
-    }
-}
-
-/// Makes of the record on standard input what these words ask for. No file is made.
-fn read_record(rt: &HostRuntime, words: &[String]) -> u8 {
-    let alloc = rt.alloc();
-    let Ok(printer) = BufWriter::new(alloc, rt.stdout()) else {
-        return no_memory(rt);
-    };
-    let mut record = StdSource::new(rt.stdin());
-    let mut out = StdSink::new(printer);
-    let status = record_command(alloc, words, &mut record, &mut out);
-    explain(rt, status, TextKind::Record);
-    explain_error(rt, "standard input", record.error());
-    explain_error(rt, "standard output", out.error());
-    status.number()
-}
-
-/// Whether the words are those of the assembler, right or wrong.
-fn ask_for_words(words: &[String]) -> bool {
-    match words {
-        [name, ..] => name.as_str() == "asm",
-        [] => false,
-    }
-}
-
-/// Whether the words are those of a command that reads a record, right or wrong.
-fn ask_of_record(words: &[String]) -> bool {
-    match words {
-        [name, ..] => RecordCommand::named(name.as_str()).is_some(),
-        [] => false,
     }
 }
 
@@ -186,13 +189,20 @@ fn refuse_no_text(rt: &HostRuntime) -> u8 {
     }
 }
 
+/// Does what the command is that the first of its words names, right or wrong.
+fn command(rt: &HostRuntime, words: &[String]) -> u8 {
+    match TextCommand::begun_by(words) {
+        Some(TextCommand::Record(_)) => read_text(rt, words, TextKind::Record),
+        Some(TextCommand::Assemble) => assemble(rt, words),
+        None => run_recorded(rt, words),
+    }
+}
+
 /// The exit status of the program.
 fn status(rt: &HostRuntime) -> u8 {
     match words(rt) {
         Ok(words) if ask_for_usage(&words) => wrong_words(rt),
-        Ok(words) if ask_for_words(&words) => assemble(rt, &words),
-        Ok(words) if ask_of_record(&words) => read_record(rt, &words),
-        Ok(words) => run_recorded(rt, &words),
+        Ok(words) => command(rt, &words),
         Err(error) if error.kind() == ErrorKind::OutOfMemory => no_memory(rt),
         Err(_) => refuse_no_text(rt),
     }

@@ -1,7 +1,1 @@
-mod Asking
-mod Booting
-mod InBytes
-mod Stopping
-mod Isolation
-mod Statuses
-pub mod Spelled
+mod Refusing

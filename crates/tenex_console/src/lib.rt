@@ -1,17 +1,9 @@
-//! The emulator: a console script is run, or a generated one, and its transcript and its record are written.
-//! To the layers above both texts are those of the plain machine, and each status has its cause.
-//! Stands on `script_driver` for the driving of the machine and both texts, on `paged_events` for the machine, on `paged_system` for its
-//! system, and on `known_slots` and `paged_store` for its pages.
+//! The emulator's top call: a console script is run, or what another command makes of a text is written.
+//! To the program what the words ask for decides: of a run both texts are those of the plain machine, and of a text its own command's.
+//! Stands on `run_console` for runs, on `text_console` for the other commands, and on `command_words` for telling them apart.
 #![tactic(auto)]
 
-mod asked;
 mod call;
-mod faultless;
-mod in_memory;
-mod laws;
 
 pub use call::tenex;
-pub use faultless::run_faultless;
-pub use in_memory::run_in_memory;
-pub use laws::a_record_is_of_one_run;
 pub use texts::Status;

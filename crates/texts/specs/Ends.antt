@@ -2,7 +2,7 @@
 use Rattle.std.specs.Prelude.{ℕ, List, [], ◌++◌, codes, decimal}
 use Rattle.script_texts.specs.Texts.{ended, counts_line}
 use Rattle.texts.specs.declared.last.Status.{Status}
-use Rattle.texts.specs.declared.last.Status.TheVariants.{Done, Usage, Script, DrumFault, Memory, ReadFault, WriteFault, LongScript, Illegal, Image}
+use Rattle.texts.specs.declared.last.Status.TheVariants.{Done, Usage, Script, DrumFault, Memory, ReadFault, WriteFault, LongScript, Illegal, Assembly, Image}
 use Rattle.texts.specs.declared.last.Last.{Last}
 use Rattle.texts.specs.declared.last.Last.TheVariants.{Done as Ended, Summary, Stopped}
 use Rattle.texts.specs.declared.tally.Tally.{Tally}
@@ -19,9 +19,11 @@ status_number ReadFault = 5
 status_number WriteFault = 6
 status_number LongScript = 7
 status_number Illegal = 8
+status_number Assembly = 10
 status_number Image = 11
 
--- the line that tells how a command stopped, with the number of a line, of an entry or of the parts before
+-- the line that tells how a command stopped, with the number of a line, of an entry or of the parts before;
+-- that of a program with a fault is the assembler's own
 abbrev pub closing_line : Status → ℕ → List ℕ
 closing_line Done n = []
 closing_line Usage n = ended (codes "?USAGE")
@@ -32,6 +34,7 @@ closing_line ReadFault n = ended (codes "?READ")
 closing_line WriteFault n = []
 closing_line LongScript n = ended (codes "?LONG SCRIPT")
 closing_line Illegal n = ended (codes "?ILLEGAL " ++ decimal n)
+closing_line Assembly n = []
 closing_line Image n = ended (codes "?IMAGE " ++ decimal n)
 
 -- the last line of the transcript, behind the closed line of characters, where so much was counted

@@ -1,5 +1,5 @@
 -- The transcript as it is written, item by item, while a terminal's line of characters may be open.
-use Rattle.std.specs.Prelude.{ℕ, List, [], ◌∷◌, ◌++◌, decimal, Option, None, Some, if◌then◌else◌, ◌==◌}
+use Rattle.std.specs.Prelude.{ℕ, List, [], ◌∷◌, ◌++◌, decimal, Option, None, Some, if◌then◌else◌, ◌==◌, ◌&&◌, not, Bool, false}
 use Rattle.script_texts.specs.declared.event.Item.{Item}
 use Rattle.script_texts.specs.declared.event.Item.TheVariants.{Char}
 use Rattle.script_texts.specs.Texts.{ended, escaped, shown_line}
@@ -25,6 +25,11 @@ char_end c = if c == 10 then 10 ∷ [] else []
 -- the terminal whose line is open behind a character
 abbrev pub char_open : ℕ → ℕ → Open
 char_open t c = if c == 10 then None else Some t
+
+-- a character of a terminal goes on in the line that is open, and doesn't end it
+abbrev pub goes_on : Open → ℕ → ℕ → Bool
+goes_on None t c = false
+goes_on (Some s) t c = (s == t) && not (c == 10)
 
 -- a line of its own, behind the end of the one that is open
 abbrev pub own_line : Open → Item → List ℕ

@@ -11,7 +11,7 @@ use crate::{Last, Status, Tally};
 use outside::{Failed, Sink};
 
 /// Writes the line that tells how a command stopped, with the number that it shows, and hands it on. For `Done` and
-/// `WriteFault` there is none. Where it fails, a front of the line is written.
+/// `WriteFault` there is none, nor for `Assembly`, whose lines are the assembler's. Where it fails, a front of the line is written.
 pub fn write_closing<T: Sink>(status: Status, n: u64, out: &mut T) -> Result<(), Failed>
     ensures later { T.fault_count out.old ≤ T.fault_count out.new }
     ensures cause { OnErr result (Rose (T.fault_count out.old) (T.fault_count out.new)) }

@@ -58,7 +58,7 @@ fn push_closing(line: &mut Line, status: Status, n: u64)
     ensures { line.new ≡ line.old ++ closing_line status n }
 {
     match status {
-        Status::Done | Status::WriteFault => {}
+        Status::Done | Status::WriteFault | Status::Assembly => {}
         Status::Usage => line.push(b"?USAGE\n"),
         Status::Script => push_numbered(line, b"?LINE ", n),
         Status::DrumFault => line.push(b"?DRUM\n"),

@@ -4,7 +4,7 @@ ghost use Rattle.word36.specs.Octal.{octal_padded};
 ghost use Rattle.script_texts.specs.Limits.{FitsItem, FitsCause};
 ghost use Rattle.machine_names.specs.Bounds.{IsFileName};
 ghost use Rattle.script_texts.specs.Texts.{escaped, ended, field, fork_text, cause_text, wait_text, status_text, frozen_text, shown_line};
-ghost use Rattle.texts.specs.OpenLine.{item_text, item_open, line_end, line_start, char_end};
+ghost use Rattle.texts.specs.OpenLine.{item_text, item_open, line_end, line_start, char_end, goes_on};
 ghost use Rattle.script_texts.specs.declared.event.Item.TheVariants.{Examined as AnExamined, PageLine as APageLine, PageWord as APageWord, UnitLine as AUnitLine};
 
 use crate::line::{ADDRESS_DIGITS, LINE_ROOM, Line};
@@ -41,6 +41,13 @@ pub fn item_line(before: Option<u8>, i: &Item) -> Line
         Item::UnitLine(f, address) => unit_line(before, *f, *address),
         Item::Refusal(cause) => refusal_line(before, cause),
     }
+}
+
+/// Whether a character of a terminal goes on in the line that is open, and doesn't end it.
+pub fn goes_on(before: Option<u8>, t: Tty, c: u8) -> bool
+    ensures { result ≡ goes_on before t.0 c }
+{
+    before == Some(t.0) && c != b'\n'
 }
 
 /// The number of the terminal whose line is open behind an item.

@@ -2,7 +2,7 @@
 ghost use Rattle.std.specs.Prelude.{◌≡◌};
 ghost use Rattle.texts.specs.Ends.{status_number};
 
-/// How a command ended, in the order of the exit statuses: 0 to 8, and 11. A run is never `Illegal` or `Image`.
+/// How a command ended, in the order of the exit statuses: 0 to 8, 10 and 11. A run is never `Illegal`, `Assembly` or `Image`.
 #[derive(Clone, Copy, PartialEq, Eq)]
 pub enum Status {
     /// The script was run to its end, or the generated one was.
@@ -23,12 +23,14 @@ pub enum Status {
     LongScript,
     /// A unit of the record is one of a fork that can't run there.
     Illegal,
+    /// The text that was read is no program: the assembler's own line tells its fault.
+    Assembly,
     /// What was read is no image of files.
     Image,
 }
 
 impl Status {
-    /// The exit status of the process: 0 to 8, or 11.
+    /// The exit status of the process: 0 to 8, 10 or 11.
     pub fn number(self) -> u8
         ensures { result ≡ status_number self }
     {
@@ -42,6 +44,7 @@ impl Status {
             Status::WriteFault => 6,
             Status::LongScript => 7,
             Status::Illegal => 8,
+            Status::Assembly => 10,
             Status::Image => 11,
         }
     }

@@ -7,8 +7,8 @@ ghost use Rattle.texts.specs.Turns.{step_of, open_run};
 
 use crate::end_line::end_line;
 use crate::entry::{entry_line, record_end};
-use crate::item_line::{item_line, open_line};
-use crate::put::put;
+use crate::item_line::open_line;
+use crate::put::{put, put_item};
 use crate::turns::{RunEntry, Turns, is_same_turn, run_line};
 use crate::{Last, Tally};
 use outside::{Failed, Sink};
@@ -191,8 +191,7 @@ impl<'a, T: Sink, R: Sink> Taker for Writer<'a, T, R> {
 
     #[inline(never)]
     fn item(&mut self, i: Item) -> Result<(), Failed> {
-        let line = item_line(self.line, &i);
-        counted(&mut self.faults, put(&mut *self.out, &line))?;
+        counted(&mut self.faults, put_item(&mut *self.out, self.line, &i))?;
         self.tally.count_item(&i);
         self.line = open_line(&i);
         Ok(())

@@ -2,9 +2,9 @@
 use crate::memory_run::{PAGES, made, sink, words_of};
 use crate::same::{same, same_at};
 use outside::SureDrum;
+use run_console::{Status, run_faultless, run_in_memory};
 use std::alloc::Global;
 use std::process::Abort;
-use tenex_console::{Status, run_faultless, run_in_memory};
 
 const SCRIPT: &[u8] = b"LOGIN 0 SMITH\nRUN 5\n";
 

@@ -2,8 +2,8 @@
 use crate::memory_run::{PAGES, assert_ended, made, run_script, run_words};
 use crate::same::same_at;
 use outside::Memory;
+use run_console::Status;
 use std::alloc::{AllocError, Global};
-use tenex_console::Status;
 
 // A script of rows, each of which shows its own lines.
 fn run_rows(

@@ -1,6 +1,6 @@
 //! Whole runs of the emulator in memory: what a script prints and records. No layer stands above; scripts that run over real
 //! streams too stand in examples/, with their texts, and runs in which a call fails are rows of fault_rows.
-//! Stands on tenex_console, and calls the laws of plain_laws and number_laws.
+//! Stands on run_console, and calls the laws of plain_laws and number_laws.
 #![tactic(auto)]
 
 #[cfg(test)]

@@ -3,8 +3,8 @@ ghost use Rattle.std.specs.Prelude.{Option, None};
 
 use crate::memory_run::{assert_ended, made, run_script, run_source};
 use outside::{Failed, Memory, Source};
+use run_console::Status;
 use std::alloc::Global;
-use tenex_console::Status;
 
 // A line again and again, and something behind the last.
 #[derive(Drop)]

@@ -1,9 +1,9 @@
 // One run over objects in memory.
 use crate::same::same;
 use outside::{Drum, MemSink, Memory, Sink, Source, SureDrum, SureSource};
+use run_console::{Status, run_command};
 use std::alloc::{AllocError, Global};
 use std::process::Abort;
-use tenex_console::{Status, tenex};
 
 /// How many bytes a text has at most here.
 const ROOM: usize = 1 << 18;
@@ -50,7 +50,7 @@ fn status_of<S: Source, T: Sink, R: Sink, D: Drum>(
     (out, rec): (&mut T, &mut R),
     drum: &mut D,
 ) -> Status {
-    tenex(alloc, words, script, out, rec, drum)
+    run_command(alloc, words, script, out, rec, drum)
 }
 
 /// Runs a command over a source and a drum of so many pages.

@@ -3,8 +3,8 @@ use crate::first;
 use crate::memory_run::{PAGES, assert_ended, assert_runs, made, run_script, run_words};
 use crate::same::same;
 use outside::Memory;
+use run_console::Status;
 use std::alloc::{AllocError, Global};
-use tenex_console::Status;
 
 #[test]
 fn ample_memory_is_enough(rt: HostRuntime) {
